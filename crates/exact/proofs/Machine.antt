@@ -1,0 +1,21 @@
+-- What the machine holds of a signed number: which numbers fit, and what is read back from the bits.
+use mathlib.Core.Path.{_≡_, _∙_}
+use Prim.Native.Nat.{ℕ, _<_, _≤_, _^_}
+use native.Mathlib.Nat.{le-refl, le-suc, lt-of-le-of-lt}
+use lib.IntN.{ℤ, pos, negsuc, natAbs}
+use lib.Signed.{mag}
+use mir.Syntax.{Width}
+use mir.Val.{SFits, ofZ, toZ, hbits}
+use mir.ValLaws.{toZ-ofZ}
+
+mag-le : (z : ℤ) → mag z ≤ natAbs z
+mag-le (pos n) = le-refl n
+mag-le (negsuc n) = le-suc n
+
+-- a number within the width's range fits
+pub within : (w : Width) (z : ℤ) → natAbs z < 2 ^ hbits w → SFits w z
+within w z h = record { sfits = lt-of-le-of-lt (mag-le z) h }
+
+-- what is read back of a call's result: `got w64 (c .f .ok) (c .f .ensures)`
+pub got : (w : Width) {r z : ℤ} → mag r < 2 ^ hbits w → r ≡ z → toZ w (ofZ w r) ≡ z
+got w {r} k e = toZ-ofZ w r (record { sfits = k }) ∙ e

@@ -1,0 +1,121 @@
+// The units of document 01, each a struct of one number, so that megawatts, dollars a megawatt-hour and dollars stay apart.
+// A quantity times a price is an amount over that product's own denominator; nothing here adds one unit to another.
+ghost use mathlib.Core.Path.{_≡_};
+ghost use Prim.Native.Nat.{_+_, _*_, _<_, _^_};
+ghost use lib.IntN.{pos, _+ℤ_, _-ℤ_, _*ℤ_};
+ghost use mir.Syntax.{w64};
+ghost use mir.Val.{SFits};
+ghost use Rattle.exact.specs.Round.{roundDiv};
+ghost use Rattle.exact.specs.Floor.{atLeastZero, atMostZero};
+
+// Thousandths of a MW or MWh.
+pub struct Quantity(pub u32);
+
+// Whole cents per MWh.
+pub struct HubPrice(pub i32);
+
+// $0.0001 per MWh.
+pub struct MarketPrice(pub i32);
+
+// Whole cents, signed.
+pub struct Cents(pub i64);
+
+// A quantity at a hub price: cents, over 1,000.
+pub struct CentsOver1000(pub i64);
+
+// A quantity at a market price: cents, over 100,000.
+pub struct CentsOver100000(pub i64);
+
+// A surcharge or a credit: cents, over 400,000, the one denominator of both.
+pub struct CentsOver400000(pub i64);
+
+impl Quantity {
+    pub fn plus(self, more: Quantity) -> Quantity
+        requires { ⌜ self .0 + more .0 < 2 ^ 32 ⌝ }
+        ensures { λ r. ⌜ r .0 ≡ self .0 + more .0 ⌝ }
+    {
+        Quantity(self.0 + more.0)
+    }
+
+    pub fn at_hub_price(self, price: HubPrice) -> CentsOver1000
+        ensures { λ r. ⌜ r .0 ≡ pos (self .0) *ℤ price .0 ⌝ }
+    {
+        CentsOver1000(exact::product(self.0, price.0))
+    }
+
+    pub fn at_market_price(self, price: MarketPrice) -> CentsOver100000
+        ensures { λ r. ⌜ r .0 ≡ pos (self .0) *ℤ price .0 ⌝ }
+    {
+        CentsOver100000(exact::product(self.0, price.0))
+    }
+}
+
+impl CentsOver1000 {
+    // Times a multiplier of so many quarters and so many hundredths.
+    pub fn scaled(self, quarters: u32, hundredths: u32) -> CentsOver400000
+        requires { ⌜ quarters * hundredths < 2 ^ 32 ⌝ }
+        requires { ⌜ SFits w64 (self .0 *ℤ pos (quarters * hundredths)) ⌝ }
+        ensures { λ r. ⌜ r .0 ≡ self .0 *ℤ pos (quarters * hundredths) ⌝ }
+    {
+        CentsOver400000(exact::times(self.0, quarters * hundredths))
+    }
+}
+
+impl CentsOver100000 {
+    pub fn plus(self, more: CentsOver100000) -> CentsOver100000
+        requires { ⌜ SFits w64 (self .0 +ℤ more .0) ⌝ }
+        ensures { λ r. ⌜ r .0 ≡ self .0 +ℤ more .0 ⌝ }
+    {
+        CentsOver100000(self.0 + more.0)
+    }
+
+    // Times a multiplier of so many quarters.
+    pub fn scaled(self, quarters: u32) -> CentsOver400000
+        requires { ⌜ SFits w64 (self .0 *ℤ pos quarters) ⌝ }
+        ensures { λ r. ⌜ r .0 ≡ self .0 *ℤ pos quarters ⌝ }
+    {
+        CentsOver400000(exact::times(self.0, quarters))
+    }
+
+    pub fn at_most_zero(self) -> CentsOver100000
+        ensures { λ r. ⌜ r .0 ≡ atMostZero (self .0) ⌝ }
+    {
+        CentsOver100000(exact::at_most_zero(self.0))
+    }
+
+    pub fn rounded(self) -> Cents
+        ensures { λ r. ⌜ r .0 ≡ roundDiv (self .0) 100000 ⌝ }
+    {
+        Cents(exact::round_div(self.0, 100000))
+    }
+}
+
+impl CentsOver400000 {
+    pub fn minus(self, less: CentsOver400000) -> CentsOver400000
+        requires { ⌜ SFits w64 (self .0 -ℤ less .0) ⌝ }
+        ensures { λ r. ⌜ r .0 ≡ self .0 -ℤ less .0 ⌝ }
+    {
+        CentsOver400000(self.0 - less.0)
+    }
+
+    pub fn at_least_zero(self) -> CentsOver400000
+        ensures { λ r. ⌜ r .0 ≡ atLeastZero (self .0) ⌝ }
+    {
+        CentsOver400000(exact::at_least_zero(self.0))
+    }
+
+    pub fn rounded(self) -> Cents
+        ensures { λ r. ⌜ r .0 ≡ roundDiv (self .0) 400000 ⌝ }
+    {
+        Cents(exact::round_div(self.0, 400000))
+    }
+}
+
+impl Cents {
+    pub fn plus(self, more: Cents) -> Cents
+        requires { ⌜ SFits w64 (self .0 +ℤ more .0) ⌝ }
+        ensures { λ r. ⌜ r .0 ≡ self .0 +ℤ more .0 ⌝ }
+    {
+        Cents(self.0 + more.0)
+    }
+}

@@ -1,0 +1,91 @@
+-- The laws of "the first that breaks its rule". They go by the number of a verdict alone, so a new case touches none of them.
+use Prim.Native.Nat.{ℕ, zero, suc, _+_, _-_, _<_, _≤_}
+use mathlib.Core.Path.{_≡_, refl, sym, ap, _∙_, subst}
+use mathlib.Core.Bool.{Bool, true, false, cond, _&&_}
+use native.Mathlib.Omega.{arith}
+use native.Mathlib.Numerals.{add-one}
+use native.Mathlib.Nat.{add-zero, zero-add}
+use lib.Dec.{eqb}
+use borrow.Author.Tests.{eq-eqb, ne-eqb, eqb-true, eqb-false}
+use Rattle.verdict.specs.declared.Verdict.{Verdict}
+use Rattle.verdict.specs.declared.Verdict.the-variants.{Accepted}
+use Rattle.verdict.specs.Verdict.{numberOf}
+use Rattle.verdict.specs.First.{rule_else_then_, _orElse_, scan}
+
+-- ---- what an acceptance tells
+
+-- a rule whose refusal is no acceptance was kept: its test holds, and the rest accepts
+pub kept : (test : Bool) (refusal rest : Verdict) → (numberOf refusal ≡ 0 → ⊥) → numberOf (rule test else refusal then rest) ≡ 0
+    → (test ≡ true) × (numberOf rest ≡ 0)
+kept true refusal rest never z = (refl, z)
+kept false refusal rest never z = absurd (never z)
+
+pub both : (a b : Bool) → (a && b) ≡ true → (a ≡ true) × (b ≡ true)
+both true b h = (refl, h)
+both false b h = (h, cc)
+
+module _ (first second : Verdict) where
+  or-next : numberOf first ≡ 0 → (first orElse second) ≡ second
+  unfolding _orElse_
+  or-next h = simp (eq-eqb _ _ h)
+
+  or-stop : (numberOf first ≡ 0 → ⊥) → (first orElse second) ≡ first
+  unfolding _orElse_
+  or-stop h = simp (ne-eqb _ _ h)
+
+  pub or-first : numberOf (first orElse second) ≡ 0 → numberOf first ≡ 0
+  or-first z = by (eqb (numberOf first) 0) refl
+    where
+      by : (t : Bool) → eqb (numberOf first) 0 ≡ t → numberOf first ≡ 0
+      by true e = eqb-true _ _ e
+      by false e = ap numberOf (sym (or-stop (eqb-false _ _ e))) ∙ z
+
+  pub or-second : numberOf (first orElse second) ≡ 0 → numberOf second ≡ 0
+  or-second z = ap numberOf (sym (or-next (or-first z))) ∙ z
+
+scan-all : (part : ℕ → Verdict) (k n : ℕ) → numberOf (scan part k n) ≡ 0 → (i : ℕ) → i < n → numberOf (part (k + i)) ≡ 0
+unfolding scan
+scan-all part k zero z i h = absurd (omega arith)
+scan-all part k (suc n) z zero h = rw add-zero (or-first _ _ z)
+scan-all part k (suc n) z (suc i) h =
+    let e : k + suc i ≡ suc k + i = omega arith in
+    rw e (scan-all part (suc k) n (or-second (part k) _ z) i (omega arith))
+
+-- every part accepts
+pub scan-each : (part : ℕ → Verdict) (n : ℕ) → numberOf (scan part 0 n) ≡ 0 → (i : ℕ) → i < n → numberOf (part i) ≡ 0
+scan-each part n z i h = subst (λ (j : ℕ). numberOf (part j) ≡ 0) (zero-add i) (scan-all part 0 n z i h)
+
+-- ---- a loop over k from 0 to n, in a form that `search` can use: what each law asks stands in the fields of the place's record.
+-- v is the turn's answer, r its number, and `whole` the answer of the whole loop.
+
+unroll : (part : ℕ → Verdict) (k n : ℕ) → k < n → scan part k (n - k) ≡ (part k orElse scan part (k + 1) (n - (k + 1)))
+unfolding scan
+unroll part k n h =
+    let e : n - k ≡ suc (n - (k + 1)) = omega arith in
+    rw (e, add-one k)
+
+pub loop-stop : (whole : Verdict) (part : ℕ → Verdict) (k n : ℕ) (v : Verdict) (r : ℕ) → whole ≡ scan part k (n - k) → k < n
+    → v ≡ part k → r ≡ numberOf v → (r ≡ 0 → ⊥) → v ≡ whole
+loop-stop whole part k n v r w below is number z =
+    sym (w ∙ unroll part k n below ∙ or-stop _ _ (λ q. z (number ∙ ap numberOf is ∙ q)) ∙ sym is)
+
+pub loop-next : (whole : Verdict) (part : ℕ → Verdict) (k n : ℕ) (v : Verdict) (r : ℕ) → whole ≡ scan part k (n - k) → k < n
+    → v ≡ part k → r ≡ numberOf v → r ≡ 0 → whole ≡ scan part (k + 1) (n - (k + 1))
+loop-next whole part k n v r w below is number z =
+    w ∙ unroll part k n below ∙ or-next _ _ (sym (ap numberOf is) ∙ sym number ∙ z)
+
+pub loop-done : (whole : Verdict) (part : ℕ → Verdict) (k n : ℕ) → whole ≡ scan part k (n - k) → n ≤ k → Accepted ≡ whole
+unfolding scan
+loop-done whole part k n w h =
+    let e : n - k ≡ 0 = omega arith in
+    sym (w ∙ rw e)
+
+-- ---- parts in order, in the same form
+
+pub seq-stop : (whole first second v : Verdict) (r : ℕ) → whole ≡ (first orElse second) → v ≡ first → r ≡ numberOf v → (r ≡ 0 → ⊥)
+    → v ≡ whole
+seq-stop whole first second v r w is number z = sym (w ∙ or-stop _ _ (λ q. z (number ∙ ap numberOf is ∙ q)) ∙ sym is)
+
+pub seq-next : (whole first second v : Verdict) (r : ℕ) → whole ≡ (first orElse second) → v ≡ first → r ≡ numberOf v → r ≡ 0
+    → whole ≡ second
+seq-next whole first second v r w is number z = w ∙ or-next _ _ (sym (ap numberOf is) ∙ sym number ∙ z)

@@ -1,0 +1,38 @@
+-- The refusal table of document 01: the number and the place of each case.
+use Prim.Native.Nat.{ℕ}
+use Rattle.verdict.specs.declared.Verdict.{Verdict}
+use Rattle.verdict.specs.declared.Verdict.the-variants.{Accepted, BadLength, BadEdition, BadAreaCount, BadDate, BadPeakHours, BadContents, BadBodyHead, BadCoordinator, OutOfRange, RunningDemandTooLarge, PriceWithoutQuantity, AmountWithoutDemand, RoomTooShort, AmountBeyondRange}
+
+abbrev pub numberOf : Verdict → ℕ
+numberOf Accepted = 0
+numberOf BadLength = 1
+numberOf BadEdition = 2
+numberOf BadAreaCount = 3
+numberOf BadDate = 4
+numberOf BadPeakHours = 5
+numberOf (BadContents word) = 6
+numberOf (BadBodyHead word) = 7
+numberOf (BadCoordinator place) = 8
+numberOf (OutOfRange place) = 9
+numberOf (RunningDemandTooLarge place) = 10
+numberOf (PriceWithoutQuantity place) = 11
+numberOf (AmountWithoutDemand place) = 12
+numberOf (RoomTooShort needed) = 13
+numberOf AmountBeyondRange = 15
+
+abbrev pub placeOf : Verdict → ℕ
+placeOf Accepted = 0
+placeOf BadLength = 0
+placeOf BadEdition = 0
+placeOf BadAreaCount = 2
+placeOf BadDate = 1
+placeOf BadPeakHours = 3
+placeOf (BadContents word) = word
+placeOf (BadBodyHead word) = word
+placeOf (BadCoordinator place) = place
+placeOf (OutOfRange place) = place
+placeOf (RunningDemandTooLarge place) = place
+placeOf (PriceWithoutQuantity place) = place
+placeOf (AmountWithoutDemand place) = place
+placeOf (RoomTooShort needed) = needed
+placeOf AmountBeyondRange = 0

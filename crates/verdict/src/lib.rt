@@ -1,0 +1,68 @@
+// The answer of every call: accepted, or the rule of document 01 that is broken, with its place.
+ghost use mathlib.Core.Path.{_≡_};
+ghost use Rattle.verdict.specs.Verdict.{numberOf, placeOf};
+
+// A case for each refusal of document 01, in the order of its table. Each case's number and place are those of specs/Verdict.antt.
+pub enum Verdict {
+    Accepted,
+    BadLength,
+    BadEdition,
+    BadAreaCount,
+    BadDate,
+    BadPeakHours,
+    BadContents { word: usize },
+    BadBodyHead { word: usize },
+    BadCoordinator { place: usize },
+    OutOfRange { place: usize },
+    RunningDemandTooLarge { place: usize },
+    PriceWithoutQuantity { place: usize },
+    AmountWithoutDemand { place: usize },
+    RoomTooShort { needed: usize },
+    AmountBeyondRange,
+}
+
+// The number of document 01's table; 0 where nothing is refused.
+pub fn number(verdict: Verdict) -> u32
+    ensures { λ r. ⌜ r ≡ numberOf verdict ⌝ }
+{
+    match verdict {
+        Verdict::Accepted => 0,
+        Verdict::BadLength => 1,
+        Verdict::BadEdition => 2,
+        Verdict::BadAreaCount => 3,
+        Verdict::BadDate => 4,
+        Verdict::BadPeakHours => 5,
+        Verdict::BadContents { word: _ } => 6,
+        Verdict::BadBodyHead { word: _ } => 7,
+        Verdict::BadCoordinator { place: _ } => 8,
+        Verdict::OutOfRange { place: _ } => 9,
+        Verdict::RunningDemandTooLarge { place: _ } => 10,
+        Verdict::PriceWithoutQuantity { place: _ } => 11,
+        Verdict::AmountWithoutDemand { place: _ } => 12,
+        Verdict::RoomTooShort { needed: _ } => 13,
+        Verdict::AmountBeyondRange => 15,
+    }
+}
+
+// The place of document 01's table.
+pub fn place(verdict: Verdict) -> usize
+    ensures { λ r. ⌜ r ≡ placeOf verdict ⌝ }
+{
+    match verdict {
+        Verdict::Accepted => 0,
+        Verdict::BadLength => 0,
+        Verdict::BadEdition => 0,
+        Verdict::BadAreaCount => 2,
+        Verdict::BadDate => 1,
+        Verdict::BadPeakHours => 3,
+        Verdict::BadContents { word } => word,
+        Verdict::BadBodyHead { word } => word,
+        Verdict::BadCoordinator { place } => place,
+        Verdict::OutOfRange { place } => place,
+        Verdict::RunningDemandTooLarge { place } => place,
+        Verdict::PriceWithoutQuantity { place } => place,
+        Verdict::AmountWithoutDemand { place } => place,
+        Verdict::RoomTooShort { needed } => needed,
+        Verdict::AmountBeyondRange => 0,
+    }
+}

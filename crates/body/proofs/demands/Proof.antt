@@ -1,0 +1,66 @@
+use borrow.Author.Needs.{needs}
+use denote.Ref.{now}
+use Prim.Native.Nat.{ℕ, _+_, _*_, _-_, _≤_}
+use mathlib.Core.Path.{_≡_, refl, sym, ap, _∙_}
+use native.Mathlib.Omega.{arith}
+use native.Mathlib.Nat.{sub-zero}
+use native.Mathlib.Numerals.{add-one}
+use Rattle.verdict.specs.First.{scan}
+use Rattle.verdict.proofs.First.{loop-next, loop-stop, loop-done}
+use Rattle.verdict.specs.Verdict.{numberOf}
+use Rattle.body.specs.Layout.{runningDemand}
+use Rattle.body.specs.Check.{demandOf, demandsRule}
+use Rattle.body.proofs.Rules.{demand-sum}
+use Rattle.body.proofs.demands.Statement.{statement}
+use Rattle.body.proofs.demands.Tie as tie
+
+abbrev Inv-loop : tie.InvT-loop
+Inv-loop start body from count running₀ i₀ running i =
+    (i ≤ count) × (running ≡ runningDemand body from i) × (running ≤ 100000000) × (demandsRule start body from count ≡ scan (demandOf start body from) i (count - i))
+
+abbrev μ-loop : tie.MeasureT-loop
+μ-loop start body from count running₀ i₀ running i = count - i
+
+turn : (c : tie.After-demand Inv-loop μ-loop) → let s = c .before .before .before .before .before .args in c .demand .result ≡ demandOf (s .start) (now (s .body)) (s .from) (c .before .before .before .loop .i)
+unfolding demandOf
+turn c = cc
+
+small : (c : tie.Else1 Inv-loop μ-loop) → c .before .before .before .before .before .loop .running + c .before .before .before .word .result ≤ 100000000
+small c = demand-sum _ _ _ (ap numberOf (sym (c .before .before .demand .ensures)) ∙ sym (c .before .number .ensures) ∙ c .if1 .left)
+
+loop-holds : tie.Need-loop-holds Inv-loop μ-loop
+unfolding runningDemand demandsRule
+loop-holds c = (omega arith, refl, omega arith, simp sub-zero)
+
+returns : tie.Need-returns Inv-loop μ-loop
+returns c = let e = turn (c .before .before) in search loop-stop
+
+add-running : tie.Need-add-running Inv-loop μ-loop
+add-running c = omega (arith, small c)
+
+loop-again : tie.Need-loop-again Inv-loop μ-loop
+unfolding runningDemand
+loop-again c = let e = turn (c .before .before) in (omega arith, rw add-one (cc), small c, search loop-next)
+
+returns-2 : tie.Need-returns-2 Inv-loop μ-loop
+returns-2 c = search loop-done
+
+pub demands-spec : {M : Type 1} → statement M
+demands-spec =
+    tie.close
+    (tie.spec
+    Inv-loop
+    μ-loop
+    loop-holds
+    (λ c. search needs)
+    (λ c κs. search needs)
+    (λ c. search needs)
+    (λ c. search needs)
+    (λ c κs. search needs)
+    (λ c κs. search needs)
+    returns
+    add-running
+    (λ c. search needs)
+    (λ c. search needs)
+    loop-again
+    returns-2)

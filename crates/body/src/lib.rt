@@ -1,0 +1,273 @@
+// The check of one area's body: its head, its coordinators and its 24 hours, word by word, and the first that breaks its rule.
+use limits::Limits;
+use verdict::Verdict;
+ghost use mathlib.Core.Path.{_≡_};
+ghost use Prim.Native.Nat.{_+_, _*_, _/_, _≤_, _<_};
+ghost use lib.ListN.{length};
+ghost use Rattle.body.specs.Layout.{bodyWords, hourWords};
+ghost use Rattle.body.specs.Check.{headRule, mostCoordinators, countRule, coordinatorRule, coordinatorsRule, rangeRule, pairRule, demandRule, deficienciesRule, intervalsRule, demandsRule, hourRule, hoursRule, headOf, bodyRule};
+
+// The first six words of the head, the hub prices A and B by their magnitude.
+fn head_words(
+    points: u32,
+    ciso: u32,
+    start: usize,
+    kind: u32,
+    flag: u32,
+    days: u32,
+    a: u32,
+    b: u32,
+    load: u32,
+) -> Verdict
+    requires { ⌜ (ciso ≤ 1) × (start < 4294967296) ⌝ }
+    ensures { λ r. ⌜ r ≡ headRule points ciso start kind flag days a b load ⌝ }
+{
+    if 1 < kind {
+        return Verdict::BadBodyHead { word: start };
+    }
+    if 1 < ciso + kind {
+        return Verdict::BadBodyHead { word: start };
+    }
+    if 1 < flag {
+        return Verdict::BadBodyHead { word: start + 1 };
+    }
+    if 30 < days {
+        return Verdict::BadBodyHead { word: start + 2 };
+    }
+    if 200000 < a {
+        return Verdict::BadBodyHead { word: start + 3 };
+    }
+    if 200000 < b {
+        return Verdict::BadBodyHead { word: start + 4 };
+    }
+    if load < 1 {
+        return Verdict::BadBodyHead { word: start + 5 };
+    }
+    if points < load {
+        return Verdict::BadBodyHead { word: start + 5 };
+    }
+    Verdict::Accepted
+}
+
+fn most_coordinators(kind: u32) -> u32
+    ensures { λ r. ⌜ r ≡ mostCoordinators kind ⌝ }
+{
+    if kind == 0 {
+        return 1;
+    }
+    64
+}
+
+// The word of K.
+fn count(start: usize, size: usize, most: usize, load: usize, count: usize) -> Verdict
+    requires { ⌜ (start < 4294967296) × ((load < 4294967296) × (count < 4294967296)) ⌝ }
+    ensures { λ r. ⌜ r ≡ countRule start size most load count ⌝ }
+{
+    if count < 1 {
+        return Verdict::BadBodyHead { word: start + 6 };
+    }
+    if most < count {
+        return Verdict::BadBodyHead { word: start + 6 };
+    }
+    if size != 7 + count + 24 * (8 + 24 * load + count) {
+        return Verdict::BadContents { word: start + 6 };
+    }
+    Verdict::Accepted
+}
+
+fn coordinator(place: usize, before: u32, number: u32) -> Verdict
+    ensures { λ r. ⌜ r ≡ coordinatorRule place before number ⌝ }
+{
+    if number <= before {
+        return Verdict::BadCoordinator { place };
+    }
+    if 2147483647 < number {
+        return Verdict::BadCoordinator { place };
+    }
+    Verdict::Accepted
+}
+
+fn coordinators(start: usize, body: &[u8], count: usize) -> Verdict
+    requires { ⌜ (start < 4294967296) × (4 * (7 + count) ≤ length (now body)) ⌝ }
+    ensures { λ r. ⌜ r ≡ coordinatorsRule start (now (body .entry)) count ⌝ }
+{
+    let mut before: u32 = 0;
+    let mut i: usize = 0;
+    while i < count {
+        let number = words::word(body, 7 + i);
+        let v = coordinator(start + (7 + i), before, number);
+        if verdict::number(v) != 0 {
+            return v;
+        }
+        before = number;
+        i += 1;
+    }
+    Verdict::Accepted
+}
+
+fn range(place: usize, most: u32, number: u32) -> Verdict
+    ensures { λ r. ⌜ r ≡ rangeRule place most number ⌝ }
+{
+    if most < number {
+        return Verdict::OutOfRange { place };
+    }
+    Verdict::Accepted
+}
+
+fn deficiencies(start: usize, body: &[u8], at: usize) -> Verdict
+    requires { ⌜ (start < 4294967296) × (4 * (at + 6) ≤ length (now body)) ⌝ }
+    ensures { λ r. ⌜ r ≡ deficienciesRule start (now (body .entry)) at ⌝ }
+{
+    let mut i: usize = 0;
+    while i < 6 {
+        let v = range(start + (at + i), 2500000, words::word(body, at + i));
+        if verdict::number(v) != 0 {
+            return v;
+        }
+        i += 1;
+    }
+    Verdict::Accepted
+}
+
+// An interval's quantity, with its place, and price, with the next place.
+pub fn pair(place: usize, next: usize, quantity: u32, price: u32) -> Verdict
+    ensures { λ r. ⌜ r ≡ pairRule place next quantity price ⌝ }
+{
+    if 10000000 < quantity {
+        return Verdict::OutOfRange { place };
+    }
+    if price == 2147483648 {
+        return Verdict::Accepted;
+    }
+    if 20000000 < words::magnitude(price) {
+        return Verdict::OutOfRange { place: next };
+    }
+    Verdict::Accepted
+}
+
+fn intervals(start: usize, body: &[u8], from: usize, count: usize) -> Verdict
+    requires { ⌜ (start < 4294967296) × (4 * (from + 2 * count) ≤ length (now body)) ⌝ }
+    ensures { λ r. ⌜ r ≡ intervalsRule start (now (body .entry)) from count ⌝ }
+{
+    let mut i: usize = 0;
+    while i < count {
+        let at = from + 2 * i;
+        let quantity = words::word(body, at);
+        let price = words::word(body, at + 1);
+        let v = pair(start + at, start + (at + 1), quantity, price);
+        if verdict::number(v) != 0 {
+            return v;
+        }
+        i += 1;
+    }
+    Verdict::Accepted
+}
+
+fn demand(place: usize, before: u32, demand: u32) -> Verdict
+    requires { ⌜ before ≤ 100000000 ⌝ }
+    ensures { λ r. ⌜ r ≡ demandRule place before demand ⌝ }
+{
+    if 100000000 < demand {
+        return Verdict::OutOfRange { place };
+    }
+    if 100000000 < before + demand {
+        return Verdict::RunningDemandTooLarge { place };
+    }
+    Verdict::Accepted
+}
+
+fn demands(start: usize, body: &[u8], from: usize, count: usize) -> Verdict
+    requires { ⌜ (start < 4294967296) × (4 * (from + count) ≤ length (now body)) ⌝ }
+    ensures { λ r. ⌜ r ≡ demandsRule start (now (body .entry)) from count ⌝ }
+{
+    let mut running: u32 = 0;
+    let mut i: usize = 0;
+    while i < count {
+        let next = words::word(body, from + i);
+        let v = demand(start + (from + i), running, next);
+        if verdict::number(v) != 0 {
+            return v;
+        }
+        running += next;
+        i += 1;
+    }
+    Verdict::Accepted
+}
+
+// The hour that starts at word `at`.
+fn hour(start: usize, body: &[u8], load: usize, count: usize, at: usize) -> Verdict
+    requires { ⌜ (start < 4294967296) × (4 * (at + hourWords load count) ≤ length (now body)) ⌝ }
+    ensures { λ r. ⌜ r ≡ hourRule start (now (body .entry)) load count at ⌝ }
+{
+    let first = deficiencies(start, body, at);
+    if verdict::number(first) != 0 {
+        return first;
+    }
+    let second = range(start + (at + 6), 50000000, words::word(body, at + 6));
+    if verdict::number(second) != 0 {
+        return second;
+    }
+    let mec = words::magnitude(words::word(body, at + 7));
+    let third = range(start + (at + 7), 20000000, mec);
+    if verdict::number(third) != 0 {
+        return third;
+    }
+    let fourth = intervals(start, body, at + 8, 12 * load);
+    if verdict::number(fourth) != 0 {
+        return fourth;
+    }
+    demands(start, body, at + 8 + 24 * load, count)
+}
+
+fn hours(start: usize, body: &[u8], load: usize, count: usize) -> Verdict
+    requires { ⌜ (start < 4294967296) × (4 * bodyWords load count ≤ length (now body)) ⌝ }
+    ensures { λ r. ⌜ r ≡ hoursRule start (now (body .entry)) load count ⌝ }
+{
+    let mut at = 7 + count;
+    let mut h: usize = 0;
+    while h < 24 {
+        let v = hour(start, body, load, count, at);
+        if verdict::number(v) != 0 {
+            return v;
+        }
+        at += 8 + 24 * load + count;
+        h += 1;
+    }
+    Verdict::Accepted
+}
+
+fn head(points: u32, ciso: u32, start: usize, body: &[u8]) -> Verdict
+    requires { ⌜ (ciso ≤ 1) × ((start < 4294967296) × (28 ≤ length (now body))) ⌝ }
+    ensures { λ r. ⌜ r ≡ headOf start (now (body .entry)) points ciso ⌝ }
+{
+    let kind = words::word(body, 0);
+    let flag = words::word(body, 1);
+    let days = words::word(body, 2);
+    let a = words::magnitude(words::word(body, 3));
+    let b = words::magnitude(words::word(body, 4));
+    let load = words::word(body, 5);
+    head_words(points, ciso, start, kind, flag, days, a, b, load)
+}
+
+// The first word of a body that breaks its rule. `ciso` CISO areas stand before this one in the file.
+pub fn check(limits: Limits, ciso: u32, start: usize, body: &[u8]) -> Verdict
+    requires { ⌜ (ciso ≤ 1) × ((start < 4294967296) × (28 ≤ length (now body))) ⌝ }
+    ensures { λ r. ⌜ r ≡ bodyRule start (now (body .entry)) limits ciso ⌝ }
+{
+    let first = head(limits.points, ciso, start, body);
+    if verdict::number(first) != 0 {
+        return first;
+    }
+    let most = most_coordinators(words::word(body, 0)) as usize;
+    let load = words::word(body, 5) as usize;
+    let k = words::word(body, 6) as usize;
+    let second = count(start, body.len() / 4, most, load, k);
+    if verdict::number(second) != 0 {
+        return second;
+    }
+    let third = coordinators(start, body, k);
+    if verdict::number(third) != 0 {
+        return third;
+    }
+    hours(start, body, load, k)
+}

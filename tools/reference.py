@@ -1,0 +1,651 @@
+#!/usr/bin/env python3
+"""The rules of document 01 as plain functions: the check, the settlement, the price of an hour,
+the sharing of an amount, the lookup, the C call and the program.
+
+It is written to be read beside document 01 and to be right, not to be fast. Quantities, prices and
+amounts are exact fractions in MW, dollars a MWh and dollars, and are rounded once, by R. It shares
+no code with the crates, so that an agreement of the two says something.
+
+Run as a program it prints the figures T1 to T12 and Case P, and exits 1 if one is off.
+"""
+
+import datetime
+import math
+import struct
+import sys
+from collections import namedtuple
+from fractions import Fraction
+
+MISSING = -2147483648
+LARGEST_NUMBER = 2147483647
+PEAK_WORD = 4194240
+HOURS = 24
+MOST_DEMAND = 100000000
+MOST_SHARED = 10000000000
+
+
+class Refused(Exception):
+    """A refusal, with its number and place."""
+
+    def __init__(self, number, place):
+        super().__init__(number, place)
+        self.number = number
+        self.place = place
+
+
+# Units
+
+
+def R(value):
+    """Rounding to the nearest whole number, halves away from zero: R(-12.5) = -13."""
+    nearest = math.floor(abs(Fraction(value)) + Fraction(1, 2))
+    return nearest if value >= 0 else -nearest
+
+
+def megawatts(word):
+    """Quantities are thousandths of a MW or MWh."""
+    return Fraction(word, 1000)
+
+
+def hub_dollars(word):
+    """Hub prices are whole cents per MWh."""
+    return Fraction(word, 100)
+
+
+def market_dollars(word):
+    """Market prices (interval prices and MEC) are $0.0001 per MWh."""
+    return Fraction(word, 10000)
+
+
+def cents(dollars):
+    """Amounts are whole cents, signed: the one rounding of an amount."""
+    return R(100 * dollars)
+
+
+# The day file
+
+
+def words_of(file_bytes):
+    """Little-endian 32-bit words, two's complement where signed.
+
+    All are read as signed: a word that is 2,147,483,648 or more without a sign is out of every
+    range of the document either way.
+    """
+    return struct.unpack("<%di" % (len(file_bytes) // 4), file_bytes)
+
+
+def is_date(word):
+    """Trading day as YYYYMMDD, a real Gregorian date, 2000 to 2099."""
+    year, month, day = word // 10000, word // 100 % 100, word % 100
+    if not 2000 <= year <= 2099:
+        return False
+    try:
+        datetime.date(year, month, day)
+    except ValueError:
+        return False
+    return True
+
+
+def is_number(word):
+    """Area and coordinator numbers are 1 to 2,147,483,647."""
+    return 1 <= word <= LARGEST_NUMBER
+
+
+def is_price(word):
+    """A price has the range of MEC, or is -2,147,483,648: missing."""
+    return -20000000 <= word <= 20000000 or word == MISSING
+
+
+def is_quantity(word):
+    """Interval quantity (0 to 10,000,000)."""
+    return 0 <= word <= 10000000
+
+
+def is_demand(word):
+    """Metered demand (0 to 100,000,000)."""
+    return 0 <= word <= MOST_DEMAND
+
+
+def hour_words(load_points, coordinators):
+    """The words of an hour: 8 numbers, 12L pairs, K demands."""
+    return 8 + 24 * load_points + coordinators
+
+
+def body_words(load_points, coordinators):
+    """Body words = 7 + K + 24(8 + 24L + K)."""
+    return 7 + coordinators + HOURS * hour_words(load_points, coordinators)
+
+
+# The check: each rule is (word that is judged, refusal number, whether the word keeps its rule).
+# The rules stand in file order. Each generator is left at the first rule that is broken, so what
+# it reads after a rule may rely on that rule.
+
+
+def file_rules(words):
+    """Words in file order, contents before bodies."""
+    yield 0, 2, words[0] == 1
+    yield 1, 4, is_date(words[1])
+    n = words[2]
+    yield 2, 3, 1 <= n <= 8 and len(words) >= 4 + 3 * n
+    yield 3, 5, words[3] in (0, PEAK_WORD)
+    for entry in range(n):
+        yield from entry_rules(words, entry)
+    for entry in range(n):
+        yield from body_rules(words, entry)
+
+
+def entry_rules(words, entry):
+    """An entry: area number, first word of its body, words in its body."""
+    n = words[2]
+    at = 4 + 3 * entry
+    number, first, length = words[at : at + 3]
+
+    # Area numbers are 1 to 2,147,483,647, strictly rising.
+    yield at, 6, is_number(number) and (entry == 0 or words[at - 3] < number)
+
+    # Bodies follow in entry order without gaps, the first at word 4 + 3n.
+    due = 4 + 3 * n if entry == 0 else words[at - 2] + words[at - 1]
+    yield at + 1, 6, first == due
+
+    # A body has 800 to 2,951 words. A body that would pass the file's end breaks at its length
+    # word, and a wrong file end is the last length word.
+    end = first + length
+    ends_well = end == len(words) if entry == n - 1 else end <= len(words)
+    yield at + 2, 6, 800 <= length <= 2951 and ends_well
+
+
+def body_rules(words, entry):
+    """A body: its head, its coordinators, its 24 hours."""
+    start, length = words[5 + 3 * entry], words[6 + 3 * entry]
+    kinds_before = [words[words[5 + 3 * before]] for before in range(entry)]
+    kind, flag, days, hub_a, hub_b, load_points, coordinators = words[start : start + 7]
+
+    # Kind (1 CISO, at most one in a file; 0 other).
+    yield start, 7, kind == 0 or (kind == 1 and 1 not in kinds_before)
+    # EDAM flag 0 or 1, persistent days d 0 to 30.
+    yield start + 1, 7, flag in (0, 1)
+    yield start + 2, 7, 0 <= days <= 30
+    # Hub price A, hub price B (each -200,000 to 200,000).
+    yield start + 3, 7, -200000 <= hub_a <= 200000
+    yield start + 4, 7, -200000 <= hub_b <= 200000
+    # Load points L 1 or 2.
+    yield start + 5, 7, load_points in (1, 2)
+    # Coordinators K (1 to 64; exactly 1 for kind 0). For the word of K, 7 before 6.
+    yield start + 6, 7, coordinators == 1 or (kind == 1 and 1 <= coordinators <= 64)
+    yield start + 6, 6, length == body_words(load_points, coordinators)
+
+    # K coordinator numbers, 1 to 2,147,483,647, strictly rising.
+    for k in range(coordinators):
+        at = start + 7 + k
+        yield at, 8, is_number(words[at]) and (k == 0 or words[at - 1] < words[at])
+
+    for hour in range(HOURS):
+        at = start + 7 + coordinators + hour * hour_words(load_points, coordinators)
+        yield from hour_rules(words, at, load_points, coordinators)
+
+
+def hour_rules(words, at, load_points, coordinators):
+    """An hour: six deficiencies, Q, MEC, 12L pairs, K demands."""
+    # Upward deficiencies of energy, regulation up, spin, non-spin; downward deficiencies of
+    # energy, regulation down (each 0 to 2,500,000).
+    for place in range(at, at + 6):
+        yield place, 9, 0 <= words[place] <= 2500000
+    # Upward imbalance reserve requirement Q (0 to 50,000,000); MEC (-20,000,000 to 20,000,000).
+    yield at + 6, 9, 0 <= words[at + 6] <= 50000000
+    yield at + 7, 9, -20000000 <= words[at + 7] <= 20000000
+    # 12L pairs of interval quantity and price.
+    for pair in range(12 * load_points):
+        place = at + 8 + 2 * pair
+        yield place, 9, is_quantity(words[place])
+        yield place + 1, 9, is_price(words[place + 1])
+    # K metered demands (0 to 100,000,000, together at most 100,000,000). For a demand, 9 before 10.
+    first_demand = at + 8 + 24 * load_points
+    for k in range(coordinators):
+        place = first_demand + k
+        yield place, 9, is_demand(words[place])
+        yield place, 10, sum(words[first_demand : place + 1]) <= MOST_DEMAND
+
+
+def check(file_bytes):
+    """The number and place of the first rule that is broken, or 0, 0."""
+    # 1: file under 16 bytes, over 65,536, or no multiple of 4.
+    if len(file_bytes) < 16 or len(file_bytes) > 65536 or len(file_bytes) % 4 != 0:
+        return 1, 0
+    for place, number, kept in file_rules(words_of(file_bytes)):
+        if not kept:
+            return number, place
+    return 0, 0
+
+
+# A checked file, read into named numbers
+
+Area = namedtuple("Area", "number kind flag days hub_prices coordinators hours start length")
+Hour = namedtuple(
+    "Hour", "peak upward downward requirement mec pairs demands first_interval first_demand"
+)
+
+
+def areas_of(words):
+    """The areas of an accepted file in file order."""
+    return [area_of(words, entry) for entry in range(words[2])]
+
+
+def area_of(words, entry):
+    number, start, length = words[4 + 3 * entry : 7 + 3 * entry]
+    kind, flag, days, hub_a, hub_b, load_points, count = words[start : start + 7]
+    first_hour = start + 7 + count
+    hours = [
+        hour_of(words, first_hour + hour * hour_words(load_points, count), hour, load_points, count)
+        for hour in range(HOURS)
+    ]
+    coordinators = words[start + 7 : first_hour]
+    return Area(number, kind, flag, days, (hub_a, hub_b), coordinators, hours, start, length)
+
+
+def hour_of(words, at, hour, load_points, count):
+    first_interval = at + 8
+    first_demand = first_interval + 24 * load_points
+    intervals = words[first_interval:first_demand]
+    return Hour(
+        # Peak hours: bits 6 to 21 are hours ending 7 to 22, so bit b is the hour ending b + 1.
+        peak=words[3] >> hour & 1 == 1,
+        upward=words[at : at + 4],
+        downward=words[at + 4 : at + 6],
+        requirement=words[at + 6],
+        mec=words[at + 7],
+        pairs=list(zip(intervals[0::2], intervals[1::2])),
+        demands=words[first_demand : first_demand + count],
+        first_interval=first_interval,
+        first_demand=first_demand,
+    )
+
+
+# Amounts
+
+
+def upward_deficiency(hour):
+    """U = the four upward deficiencies added."""
+    return megawatts(sum(hour.upward))
+
+
+def downward_deficiency(hour):
+    """W = the two downward deficiencies."""
+    return megawatts(sum(hour.downward))
+
+
+def tier(U, Q):
+    """0 if U = 0; 1 if U > 0 and (U <= 10 MW or 100U <= Q); otherwise 2 if 2U <= Q, 3 if 2U > Q."""
+    if U == 0:
+        return 0
+    if U <= 10 or 100 * U <= Q:
+        return 1
+    return 2 if 2 * U <= Q else 3
+
+
+def hour_tier(hour):
+    """Tier of an hour. Q is the area's one total."""
+    return tier(upward_deficiency(hour), megawatts(hour.requirement))
+
+
+def day_tier(area):
+    """Day tier = highest tier of the peak hours, 0 without peak hours."""
+    return max([hour_tier(hour) for hour in area.hours if hour.peak], default=0)
+
+
+def highest_deficiency(area):
+    """M = highest U of the peak hours, 0 without peak hours."""
+    return max([upward_deficiency(hour) for hour in area.hours if hour.peak], default=Fraction(0))
+
+
+def multiplier(of_tier):
+    """m 1.25 for tier 2 and 2 for tier 3."""
+    return {2: Fraction(5, 4), 3: Fraction(2)}[of_tier]
+
+
+def load_weighted(pairs):
+    """Sum of quantity × price over intervals whose price is present, over the sum of the same
+    quantities, then R to $0.0001. None where there is no quantity under it."""
+    present = [(quantity, price) for quantity, price in pairs if price != MISSING]
+    weight = sum(megawatts(quantity) for quantity, _ in present)
+    if weight == 0:
+        return None
+    value = sum(megawatts(quantity) * market_dollars(price) for quantity, price in present)
+    return R(10000 * value / weight)
+
+
+def price_is_needed(area, hour):
+    """It is needed in an off-peak hour of tier 2 or 3 and in a tier 0 peak hour of a day of
+    tier 2 or 3, flag 1 only."""
+    if area.flag == 0:
+        return False
+    if hour.peak:
+        return hour_tier(hour) == 0 and day_tier(area) >= 2
+    return hour_tier(hour) >= 2
+
+
+def surcharge(M, P, of_tier, days):
+    """S = max(0, M × P × m × (1 + d/100)), in dollars."""
+    return max(Fraction(0), M * P * multiplier(of_tier) * (1 + Fraction(days, 100)))
+
+
+def on_peak(area, hour, price):
+    """R(max(0, S - credit)) in cents, peak hours only; 0 if day tier <= 1."""
+    if not hour.peak or day_tier(area) <= 1:
+        return 0
+    M = highest_deficiency(area)
+    # P the greater hub price.
+    P = max(hub_dollars(hub) for hub in area.hub_prices)
+    S = surcharge(M, P, day_tier(area), area.days)
+    # In a peak hour of tier 0 the credit is M × its load-weighted price; elsewhere 0.
+    credit = M * market_dollars(price) if hour_tier(hour) == 0 else Fraction(0)
+    return cents(max(Fraction(0), S - credit))
+
+
+def off_peak(hour, price):
+    """Other hours: tier 0 and 1 give 0; otherwise R(max(0, U × load-weighted price × m)) with the
+    hour's own tier. No day scaling."""
+    if hour.peak or hour_tier(hour) <= 1:
+        return 0
+    U = upward_deficiency(hour)
+    return cents(max(Fraction(0), U * market_dollars(price) * multiplier(hour_tier(hour))))
+
+
+def downward(W, mec):
+    """If W > 10 MW, R(min(0, W × MEC)), otherwise 0."""
+    if W > 10:
+        return cents(min(Fraction(0), W * mec))
+    return 0
+
+
+def amounts(area, hour):
+    """On-peak, off-peak and downward amount of an hour, or refusal 11."""
+    # All amounts of an area with EDAM flag 0 are 0.
+    if area.flag == 0:
+        return 0, 0, 0
+    price = None
+    if price_is_needed(area, hour):
+        price = load_weighted(hour.pairs)
+        if price is None:
+            raise Refused(11, hour.first_interval)
+    return (
+        on_peak(area, hour, price),
+        off_peak(hour, price),
+        downward(downward_deficiency(hour), market_dollars(hour.mec)),
+    )
+
+
+# Shares
+
+
+def shares(A, demands):
+    """With running demands C0 = 0, C1, .. and total T, charge i = R(A × Ci / T) - R(A × C(i-1) / T);
+    all 0 when A = 0."""
+    if A == 0:
+        return [0] * len(demands)
+    T = sum(demands)
+    running = [sum(demands[:i]) for i in range(len(demands) + 1)]
+    rounded = [R(Fraction(A * C, T)) for C in running]
+    return [rounded[i + 1] - rounded[i] for i in range(len(demands))]
+
+
+def charges(area, hour, A):
+    """Kind 0: the one coordinator is charged A. Kind 1: shares, or refusal 12."""
+    if area.kind == 0:
+        return [A]
+    # 12: kind 1, A not 0, T = 0.
+    if A != 0 and sum(hour.demands) == 0:
+        raise Refused(12, hour.first_demand)
+    return shares(A, hour.demands)
+
+
+# The statement
+
+
+def numbers_needed(areas):
+    """The sum of 24(3 + K)."""
+    return sum(HOURS * (3 + len(area.coordinators)) for area in areas)
+
+
+def block(area):
+    """24 hours of on-peak amount, off-peak amount, downward amount, K charges."""
+    numbers = []
+    for hour in area.hours:
+        three = amounts(area, hour)
+        numbers += three
+        # A = the hour's three amounts added.
+        numbers += charges(area, hour, sum(three))
+    return numbers
+
+
+def settle(file_bytes, statement):
+    """Number, place and the statement afterwards. A refusal writes nothing; numbers past the
+    needed ones stay."""
+    number, place = check(file_bytes)
+    if number != 0:
+        return number, place, list(statement)
+    areas = areas_of(words_of(file_bytes))
+    needed = numbers_needed(areas)
+    if len(statement) < needed:
+        return 13, needed, list(statement)
+    try:
+        settled = [number for area in areas for number in block(area)]
+    except Refused as refusal:
+        return refusal.number, refusal.place, list(statement)
+    return 0, 0, settled + list(statement[needed:])
+
+
+# The other calls
+
+
+def price(pair_bytes):
+    """The price call: number, place, price in $0.0001."""
+    # 96 or 192 bytes of pairs: 1 for another length.
+    if len(pair_bytes) not in (96, 192):
+        return 1, 0, 0
+    words = words_of(pair_bytes)
+    pairs = list(zip(words[0::2], words[1::2]))
+    # 9 with the pair's number from 0.
+    for number, (quantity, pair_price) in enumerate(pairs):
+        if not (is_quantity(quantity) and is_price(pair_price)):
+            return 9, number, 0
+    value = load_weighted(pairs)
+    if value is None:
+        return 11, 0, 0
+    return 0, 0, value
+
+
+def row_rules(rows):
+    """Rows in order (8, 9, 10, place the row from 0), as in a body."""
+    for row, (coordinator, demand) in enumerate(rows):
+        yield row, 8, is_number(coordinator) and (row == 0 or rows[row - 1][0] < coordinator)
+        yield row, 9, is_demand(demand)
+        yield row, 10, sum(demand for _, demand in rows[: row + 1]) <= MOST_DEMAND
+
+
+def share(amount, rows, lent):
+    """The sharing call: number, place and the charges afterwards; charges past the rows stay."""
+    # 1 unless 1 to 64 rows, then 15.
+    if not 1 <= len(rows) <= 64:
+        return 1, 0, list(lent)
+    if abs(amount) > MOST_SHARED:
+        return 15, 0, list(lent)
+    for place, number, kept in row_rules(rows):
+        if not kept:
+            return number, place, list(lent)
+    # 13 for fewer charges than rows, place the numbers needed.
+    if len(lent) < len(rows):
+        return 13, len(rows), list(lent)
+    demands = [demand for _, demand in rows]
+    # 12 (place 0; A not 0 and T = 0).
+    if amount != 0 and sum(demands) == 0:
+        return 12, 0, list(lent)
+    return 0, 0, shares(amount, demands) + list(lent[len(rows) :])
+
+
+def lookup(file_bytes, area_number):
+    """The bytes of that area's body, or none if the number is absent or the check refuses."""
+    if check(file_bytes) != (0, 0):
+        return b""
+    for area in areas_of(words_of(file_bytes)):
+        if area.number == area_number:
+            return file_bytes[4 * area.start : 4 * (area.start + area.length)]
+    return b""
+
+
+def c_call(file_bytes, statement_bytes):
+    """Number × 1,000,000 + place, and the statement bytes afterwards: 8 little-endian bytes a
+    number; bytes past the last whole number don't count and stay."""
+    whole = len(statement_bytes) // 8
+    statement = list(struct.unpack("<%dq" % whole, statement_bytes[: 8 * whole]))
+    number, place, after = settle(file_bytes, statement)
+    afterwards = struct.pack("<%dq" % whole, *after) + statement_bytes[8 * whole :]
+    return number * 1000000 + place, afterwards
+
+
+def program(file_bytes):
+    """What the program prints for a day file."""
+    number, place = check(file_bytes)
+    if number == 0:
+        words = words_of(file_bytes)
+        areas = areas_of(words)
+        number, place, statement = settle(file_bytes, [0] * numbers_needed(areas))
+    if number != 0:
+        return "refused %d %d\n" % (number, place)
+
+    # `8080`, the day, n.
+    lines = ["8080 %d %d" % (words[1], words[2])]
+    total = 0
+    left = statement
+    for area in areas:
+        for hour_ending in range(1, HOURS + 1):
+            hour_charges = left[3 : 3 + len(area.coordinators)]
+            left = left[3 + len(area.coordinators) :]
+            for coordinator, charge in zip(area.coordinators, hour_charges):
+                total += charge
+                if charge != 0:
+                    lines.append(
+                        "%d %d %d %d" % (area.number, coordinator, hour_ending, charge)
+                    )
+    lines.append("total %d" % total)
+    return "\n".join(lines) + "\n"
+
+
+# The figures to hold
+
+CASE_P = "8080 20260504 1\n7 12 3 200000\ntotal 200000\n"
+
+
+def case_p():
+    """Case P word by word: 807 words, all zero and every price missing, but in hour 3."""
+    words = [1, 20260504, 1, PEAK_WORD, 7, 7, 800, 0, 1, 0, 0, 0, 1, 1, 12]
+    hour = [0] * 8 + [0, MISSING] * 12 + [0]
+    third = [40000] + [0] * 5 + [60000, 0] + [1000, 250000] + [0, MISSING] * 11 + [0]
+    words += hour * 2 + third + hour * 21
+    assert len(words) == 807
+    return struct.pack("<807i", *words)
+
+
+def tier_figures():
+    """T1 to T5: the figure's name, Q, U and its tier, in MW as the document writes them."""
+    table = (
+        ("T1", "600", "10.000", 1),
+        ("T1", "600", "10.001", 2),
+        ("T2", "600", "300.000", 2),
+        ("T2", "600", "300.001", 3),
+        ("T3", "2000", "20.000", 1),
+        ("T3", "2000", "20.001", 2),
+        ("T4", "10", "8.000", 1),
+        ("T4", "10", "10.001", 3),
+        ("T5", "1000.050", "10.000", 1),
+        ("T5", "1000.050", "10.001", 2),
+    )
+    for name, Q, U, due in table:
+        yield "%s Q %s U %s" % (name, Q, U), due, tier(Fraction(U), Fraction(Q))
+
+
+def on_peak_figures():
+    """T6 and T7, as amounts in the statement of a whole day file.
+
+    M 120, hubs 80.00 and 95.50, d 3, day tier 2. Hour ending 7 has the 120 MW, hour ending 8
+    fails in tier 1, hours ending 9 to 11 pass at the three prices.
+    """
+    import days
+
+    area = days.quiet_area(number=7, kind=0, load_points=1, coordinators=[12])
+    area.persistent_days, area.hub_a, area.hub_b = 3, 8000, 9550
+    for hour in area.hours:
+        hour.requirement = 600000
+        hour.pairs = [(1000, 0)] * 12
+    area.hours[6].energy_up = 120000
+    area.hours[7].spin = 10000
+    for passed, dollars in ((8, 60), (9, 130), (10, -5)):
+        area.hours[passed].pairs = [(1000, 10000 * dollars)] * 12
+    file_bytes = days.Day(20260504, PEAK_WORD, [area]).to_bytes()
+    number, place, statement = settle(file_bytes, [0] * 96)
+    assert (number, place) == (0, 0)
+    amount = [statement[4 * hour] for hour in range(HOURS)]
+    yield "T6 a failed hour", 1475475, amount[6]
+    yield "T6 a failed hour of tier 1", 1475475, amount[7]
+    yield "T7 a passed hour at 60", 755475, amount[8]
+    yield "T7 a passed hour at 130", 0, amount[9]
+    yield "T7 a passed hour at -5", 1535475, amount[10]
+
+
+def downward_figures():
+    """T8 and T9."""
+    yield "T8 W 10.000 at -100", 0, downward(Fraction("10.000"), Fraction(-100))
+    yield "T8 W 10.001 at -100", -100010, downward(Fraction("10.001"), Fraction(-100))
+    yield "T9 W 12.500 at -0.01", -13, downward(Fraction("12.5"), Fraction("-0.01"))
+    yield "T9 W 12.500 at +40", 0, downward(Fraction("12.5"), Fraction(40))
+
+
+def call_figures():
+    """T10 by the price call, T11 and T12 by the sharing call."""
+    pairs = [(100000, 300000), (300000, 500000)] + [(100000, MISSING)] * 10
+    pair_words = [word for pair in pairs for word in pair]
+    yield "T10", (0, 0, 450000), price(struct.pack("<24i", *pair_words))
+    table = (
+        ("T11 100 cents over 1, 1, 1", 100, (1, 1, 1), [33, 34, 33]),
+        ("T11 the first two merged", 100, (2, 1), [67, 33]),
+        ("T11 -100 cents", -100, (1, 1, 1), [-33, -34, -33]),
+        ("T12 1 cent over 1, 0, 1", 1, (1, 0, 1), [1, 0, 0]),
+    )
+    for name, amount, demands, due in table:
+        rows = [(coordinator + 1, demand) for coordinator, demand in enumerate(demands)]
+        yield name, (0, 0, due), share(amount, rows, [0] * len(rows))
+
+
+def rounding_figures():
+    """R(-12.5) = -13, and R in whole numbers: (2a + b) / 2b without its remainder for a >= 0."""
+    yield "R(-12.5)", -13, R(Fraction(-25, 2))
+    fractions = [(a, b) for a in range(200) for b in range(1, 40)]
+    due = [(2 * a + b) // (2 * b) for a, b in fractions]
+    found = [R(Fraction(a, b)) for a, b in fractions]
+    yield "R in whole numbers, a >= 0", True, found == due
+    found = [R(Fraction(-a, b)) for a, b in fractions]
+    yield "R in whole numbers, a < 0", True, found == [-value for value in due]
+
+
+def main():
+    wrong = 0
+    for figures in (
+        rounding_figures,
+        tier_figures,
+        on_peak_figures,
+        downward_figures,
+        call_figures,
+    ):
+        for name, due, found in figures():
+            right = due == found
+            wrong += not right
+            print("%s: %s%s" % (name, found, "" if right else ", and not %s" % (due,)))
+    printed = program(case_p())
+    wrong += printed != CASE_P
+    print("Case P prints\n%s" % printed, end="")
+    if wrong:
+        sys.exit("%d of the figures are off." % wrong)
+
+
+if __name__ == "__main__":
+    sys.dont_write_bytecode = True  # running a tool leaves nothing behind in the repository
+    main()

@@ -1,0 +1,1551 @@
+#!/usr/bin/env python3
+"""The cases that the vectors program runs, and the line that it must print for each.
+
+    vectors.py make     writes crates/vectors/stdin (the cases) and crates/vectors/stdout (the lines)
+    vectors.py check    makes both anew and exits 1 if what is committed differs
+    vectors.py list     prints for each case its line number, group, call, x and payload bytes
+    vectors.py stream --seed N --cases M --input FILE --expected FILE [--calls 1,5]
+                        writes M fresh random cases and their lines, for fuzzing
+
+A case is four little-endian words (call, x, y, payload bytes) and the payload:
+
+    1 check    a day file                                      number, place
+    2 settle   a day file, x numbers lent                      number, place, the x numbers
+    3 price    interval pairs                                  number, place, price
+    4 share    8 bytes of amount, 8 bytes a row, x lent        number, place, the x charges
+    5 lookup   a day file, x the area's number                 length and digest of the part
+    6 C call   a day file, x statement bytes lent              coded answer, digest of the x bytes
+
+The expected lines come from reference.py alone. Each group of cases is one generator function with
+a seed of its own, so that a group added or left out does not move another.
+"""
+
+import argparse
+import random
+import struct
+import sys
+from collections import namedtuple
+from pathlib import Path
+
+sys.dont_write_bytecode = True  # running a tool leaves nothing behind in the repository
+
+import days
+import reference
+from days import DATE, HEAD, HOUR_NUMBERS, LARGEST_NUMBER, MISSING, PEAK_WORD, with_words
+
+ROOT = Path(__file__).resolve().parent.parent
+INPUT = ROOT / "crates" / "vectors" / "stdin"
+EXPECTED = ROOT / "crates" / "vectors" / "stdout"
+
+# The calls that the committed stream holds: those that the vectors program has.
+CALLS = (1, 5)
+ALL_CALLS = (1, 2, 3, 4, 5, 6)
+
+CHECK, SETTLE, PRICE, SHARE, LOOKUP, C_CALL = ALL_CALLS
+
+# What the vectors program has room for.
+MOST_PAYLOAD = 66000
+
+Case = namedtuple("Case", "call x payload")
+
+
+# The stream and its lines
+
+
+def case_bytes(case):
+    assert len(case.payload) <= MOST_PAYLOAD
+    return struct.pack("<4I", case.call, case.x, 0, len(case.payload)) + case.payload
+
+
+def lent_numbers(count):
+    """Number i of lent numbers holds -9,000,000,000,000,000,000 + i before the call."""
+    return [-9000000000000000000 + i for i in range(count)]
+
+
+def lent_bytes(count):
+    """Each lent byte holds 165 before the call."""
+    return bytes([165]) * count
+
+
+def digest(part):
+    """Starts at 0 and goes h = (31 h + b) mod 4,294,967,296 for each byte."""
+    h = 0
+    for b in part:
+        h = (31 * h + b) % 4294967296
+    return h
+
+
+def share_payload(amount, rows):
+    return struct.pack("<q", amount) + days.bytes_of([word for row in rows for word in row])
+
+
+def share_arguments(payload):
+    (amount,) = struct.unpack("<q", payload[:8])
+    words = reference.words_of(payload[8:])
+    return amount, list(zip(words[0::2], words[1::2]))
+
+
+def answers(case):
+    """The numbers of the line that the vectors program prints."""
+    call, x, payload = case
+    if call == CHECK:
+        return reference.check(payload)
+    if call == SETTLE:
+        number, place, statement = reference.settle(payload, lent_numbers(x))
+        return [number, place] + statement
+    if call == PRICE:
+        return reference.price(payload)
+    if call == SHARE:
+        amount, rows = share_arguments(payload)
+        number, place, charges = reference.share(amount, rows, lent_numbers(x))
+        return [number, place] + charges
+    if call == LOOKUP:
+        part = reference.lookup(payload, x)
+        return len(part), digest(part)
+    coded, after = reference.c_call(payload, lent_bytes(x))
+    return coded, digest(after)
+
+
+def line(case):
+    return " ".join(str(number) for number in answers(case)) + "\n"
+
+
+# Parts that several groups use
+
+
+def vector_files():
+    """Every day file of vectors/, by name."""
+    paths = sorted((ROOT / "vectors").glob("*.day"), key=lambda path: path.name)
+    if not paths:
+        sys.exit("vectors/ has no day file.")
+    return [path.read_bytes() for path in paths]
+
+
+def filled_day(rng, *shapes, style=days.REALISTIC):
+    """A day that is settled, with numbers in most words: (kind, L, K) an area."""
+    return days.random_day_of(rng, shapes, style, PEAK_WORD, gaps=False)
+
+
+SMALL = (0, 1, 1)  # the smallest area: 800 words
+CISO = (1, 1, 3)
+
+
+def needed(file_bytes):
+    """The numbers that an accepted file needs, 0 for a refused one."""
+    number, place, _ = reference.settle(file_bytes, [])
+    return place if number == 13 else 0
+
+
+def header(n=1, date=DATE, peak=0, edition=1):
+    return [edition, date, n, peak]
+
+
+def refused_files(rng):
+    """One small file or two for each number of the check, 1 to 10."""
+    day = filled_day(rng, SMALL)
+    small = day.to_bytes()
+    yield small[:-1]
+    yield b""
+    yield with_words(small, (0, 2))
+    yield with_words(small, (2, 9))
+    yield with_words(small, (1, 20250229))
+    yield with_words(small, (3, 1))
+    yield with_words(small, (6, 801))
+    yield small + bytes(4)
+    yield with_words(small, (day.head_place(0, "flag"), 2))
+    yield with_words(small, (day.coordinator_place(0, 0), 0))
+    yield with_words(small, (day.number_place(0, 23, "mec"), MISSING))
+    ciso = filled_day(rng, CISO)
+    yield with_words(
+        ciso.to_bytes(),
+        (ciso.demand_place(0, 5, 0), 100000000),
+        (ciso.demand_place(0, 5, 1), 0),
+        (ciso.demand_place(0, 5, 2), 1),
+    )
+
+
+# Call 1: the check
+
+
+def check_vector_files(rng):
+    """Every file of vectors/."""
+    for file_bytes in vector_files():
+        yield Case(CHECK, 0, file_bytes)
+
+
+def check_sizes(rng):
+    """Refusal 1, and files that end too early or too late: bytes, a word, a body."""
+    two = filled_day(rng, SMALL, SMALL).to_bytes()
+    small = filled_day(rng, SMALL).to_bytes()
+    for size in range(21):
+        yield Case(CHECK, 0, bytes(size))
+        yield Case(CHECK, 0, small[:size])
+    for size in (24, 27, 28, 29, 32, 36):
+        yield Case(CHECK, 0, small[:size])
+    for missing in (1, 2, 3, 4, 3200, 3204):
+        yield Case(CHECK, 0, small[: len(small) - missing])
+    for more in (1, 2, 3, 4):
+        yield Case(CHECK, 0, small + bytes(more))
+    yield Case(CHECK, 0, small + small[28:])
+    yield Case(CHECK, 0, two[:-4])
+    yield Case(CHECK, 0, two[:-3200])
+    yield Case(CHECK, 0, two[:-3204])
+    yield Case(CHECK, 0, two + bytes(4))
+    # The same words, a byte off.
+    yield Case(CHECK, 0, b"\x00" + small[:-1])
+
+
+def check_most_bytes(rng):
+    """65,536 bytes, and one byte and one word more.
+
+    The eight bodies of the full file keep every rule of the contents, and the first keeps all of
+    its own; the second is of no size that L and K can give.
+    """
+    day = filled_day(rng, (1, 1, 50), SMALL)
+    first = day.areas[0].words()
+    lengths = [len(first)] + [2047] * 7
+    lengths[7] = 65536 // 4 - 28 - sum(lengths[:7])
+    words = header(n=8)
+    start = 28
+    for area, length in enumerate(lengths):
+        words += [area + 1, start, length]
+        start += length
+    words += first + day.areas[1].words()
+    full = days.bytes_of(words)
+    full += bytes(65536 - len(full))
+    yield Case(CHECK, 0, full)
+    yield Case(CHECK, 0, full + bytes(1))
+    yield Case(CHECK, 0, full + bytes(4))
+
+
+def check_largest_accepted(rng):
+    """The largest file that is accepted, 12,611 words, and one word more."""
+    shapes = [(0, 2, 1)] * 3 + [(1, 2, 64)] + [(0, 2, 1)] * 4
+    largest = filled_day(rng, *shapes).to_bytes()
+    assert len(largest) == 4 * 12611
+    yield Case(CHECK, 0, largest)
+    yield Case(CHECK, 0, largest + bytes(4))
+
+
+def check_words_of_the_header(rng):
+    """Words 0, 2 and 3 around their rules.
+
+    A file of four words, or of the contents alone, shows each side: a word that keeps its rule is
+    followed by a refusal further on.
+    """
+    edges = (0, 2, 256, 16777216, 0x7FFFFFFF, 0x80000000, 0x80000001, 0xFFFFFFFF)
+    for edition in (1,) + edges:
+        yield Case(CHECK, 0, days.bytes_of(header(edition=edition)))
+    # 1431655766 × 3 passes 32 bits and leaves 2; 1431655764 × 3 + 4 leaves 0.
+    for n in (1, 3, 7, 8, 9, 10, 1365, 5460, 1431655764, 1431655766, 0xFFFFFFFE) + edges:
+        yield Case(CHECK, 0, days.bytes_of(header(n=n)))
+        yield Case(CHECK, 0, days.bytes_of(header(n=n) + [1, 7, 800]))
+    # The file lacks 4 + 3n words, by one, two and three, or has just these.
+    for n in range(1, 9):
+        for words in range(3 * n + 1, 3 * n + 6):
+            yield Case(CHECK, 0, days.bytes_of((header(n=n) + [0] * 40)[:words]))
+            yield Case(CHECK, 0, days.bytes_of((header(n=n) + [n, 4 + 3 * n, 800] * 9)[:words]))
+    peaks = [PEAK_WORD + step for step in (-64, -2, -1, 0, 1, 2, 64)]
+    peaks += [PEAK_WORD | 1 << bit for bit in (0, 5, 22, 23, 31)]
+    peaks += [PEAK_WORD & ~(1 << bit) for bit in (6, 13, 21)]
+    peaks += [PEAK_WORD >> 1, PEAK_WORD << 1, 0xC0FF3F00, 0x00FFFFFF, 64, 1]
+    for peak in tuple(peaks) + edges:
+        yield Case(CHECK, 0, days.bytes_of(header(peak=peak) + [1, 7, 800]))
+    small = filled_day(rng, SMALL).to_bytes()
+    for peak in (0, PEAK_WORD, PEAK_WORD + 1, 1):
+        yield Case(CHECK, 0, with_words(small, (3, peak)))
+
+
+def check_dates(rng):
+    """Word 1: every end of February of the century, every month's end, days and months beyond.
+
+    In a file of four words a real date is followed by refusal 3.
+    """
+    dates = []
+    for year in range(1998, 2103):
+        dates += [year * 10000 + month_day for month_day in (228, 229, 230, 301)]
+    for year in (2000, 2023, 2024, 2099):
+        for month in range(15):
+            for day in (0, 1, 28, 29, 30, 31, 32, 99):
+                dates.append(year * 10000 + month * 100 + day)
+    dates += [19991231, 20000101, 20991231, 21000101, 21000228, 21000229, 20000100, 20000001]
+    dates += [0, 1, 101, 1231, 991231, 2026504, 202605040, 504, 20269999, 20261232]
+    dates += [0x7FFFFFFF, 0x80000000, 0xFFFFFFFF, -20260504, 20260504 + (1 << 31)]
+    for date in dates:
+        yield Case(CHECK, 0, days.bytes_of(header(date=date)))
+    small = filled_day(rng, SMALL).to_bytes()
+    for date in (20000101, 20000229, 20240229, 20991231, 20990229, 20260431, 19991231):
+        yield Case(CHECK, 0, with_words(small, (1, date)))
+
+
+def check_contents(rng):
+    """Refusal 6 at each of the three words of the first, second and last entry."""
+    one = filled_day(rng, SMALL).to_bytes()
+    for number in (1, LARGEST_NUMBER):
+        yield Case(CHECK, 0, with_words(one, (4, number)))
+    # In a file of the contents alone a right number and start are followed by a wrong length.
+    for number in (0, 1, LARGEST_NUMBER, 0x80000000, 0x80000001, 0xFFFFFFFF):
+        yield Case(CHECK, 0, days.bytes_of(header() + [number, 7, 800]))
+    for start in (0, 1, 4, 6, 7, 8, 28, 0x7FFFFFFF, 0x80000007, 0xFFFFFFFF):
+        yield Case(CHECK, 0, days.bytes_of(header() + [7, start, 800]))
+    for length in (0, 799, 801, 2951, 2952, 0x7FFFFFFF, 0x80000000, 0x80000320, 0xFFFFFFF9):
+        yield Case(CHECK, 0, days.bytes_of(header() + [7, 7, length]))
+        yield Case(CHECK, 0, with_words(one, (6, length)))
+    # Two areas: the first ends before, with and after the file.
+    day = filled_day(rng, SMALL, SMALL)
+    day.areas[0].number, day.areas[1].number = 5, 7
+    two = day.to_bytes()
+    for length in (799, 801, 1600, 1601, 0x80000320):
+        yield Case(CHECK, 0, with_words(two, (6, length)))
+    yield Case(CHECK, 0, with_words(two, (6, 1600), (8, 1610)))
+    yield Case(CHECK, 0, with_words(two, (6, 801), (8, 811), (9, 799)))
+    yield Case(CHECK, 0, with_words(two, (6, 799), (8, 809), (9, 801)))
+    # The second entry's number and start; what follows the first body is not reached.
+    for number in (0, 4, 5, 6, LARGEST_NUMBER, 0x80000000, 0xFFFFFFFF):
+        yield Case(CHECK, 0, with_words(two, (7, number))[: 4 * 810])
+    for start in (0, 10, 809, 811, 0x8000032A):
+        yield Case(CHECK, 0, with_words(two, (8, start))[: 4 * 810])
+    # The last of three: its number, its start, its length.
+    three = filled_day(rng, SMALL, SMALL, SMALL).to_bytes()
+    yield Case(CHECK, 0, with_words(three, (10, reference.words_of(three)[7])))
+    yield Case(CHECK, 0, with_words(three, (11, 1614)))
+    yield Case(CHECK, 0, with_words(three, (12, 801)))
+    # The last of eight.
+    eight = filled_day(rng, *[SMALL] * 8).to_bytes()
+    yield Case(CHECK, 0, with_words(eight, (25, reference.words_of(eight)[22])))
+    yield Case(CHECK, 0, with_words(eight, (27, 799)))
+
+
+def check_lengths(rng):
+    """A body of a length out of its range in a file that ends with it, and bodies whose size
+    differs from their L and K: place the word of K."""
+    small = filled_day(rng, SMALL)
+    words = small.words()
+    for length in (799, 801, 1375, 1377, 2952):
+        longer = (words + [0] * 3000)[: 7 + length]
+        yield Case(CHECK, 0, with_words(days.bytes_of(longer), (6, length)))
+    # Each shape at the ends of K and L is accepted with its own size.
+    for shape in ((0, 1, 1), (0, 2, 1), (1, 1, 1), (1, 2, 1), (1, 1, 64), (1, 2, 64)):
+        yield Case(CHECK, 0, filled_day(rng, shape).to_bytes())
+    # L or K says another size than the length.
+    for shape, name, value in (
+        ((0, 1, 1), "load_points", 2),
+        ((0, 2, 1), "load_points", 1),
+        ((1, 1, 2), "coordinators", 1),
+        ((1, 1, 2), "coordinators", 3),
+        ((1, 1, 2), "load_points", 2),
+        ((1, 1, 1), "coordinators", 24),
+        ((1, 1, 1), "coordinators", 64),
+    ):
+        day = filled_day(rng, shape)
+        yield Case(CHECK, 0, with_words(day.to_bytes(), (day.head_place(0, name), value)))
+    # For the last body of two, and with a K that breaks its own rule as well (7 before 6).
+    day = filled_day(rng, SMALL, (1, 1, 2))
+    two = day.to_bytes()
+    for count in (0, 1, 65):
+        yield Case(CHECK, 0, with_words(two, (day.head_place(1, "coordinators"), count)))
+
+
+def check_body_heads(rng):
+    """Refusal 7: each word of the head, both sides of its range, in the first and last area."""
+    edges = (0x7FFFFFFF, 0x80000000, 0xFFFFFFFF)
+    values = {
+        "kind": (2, 256) + edges,
+        "flag": (0, 1, 2, 256) + edges,
+        "persistent_days": (0, 30, 31) + edges,
+        "hub_a": (-200000, 200000, -200001, 200001) + edges[:2],
+        "hub_b": (-200000, 200000, -200001, 200001) + edges[:2],
+        "load_points": (0, 3) + edges,
+        "coordinators": (0, 2, 64, 65) + edges,
+    }
+    day = filled_day(rng, SMALL)
+    one = day.to_bytes()
+    for name in HEAD:
+        for value in values[name]:
+            yield Case(CHECK, 0, with_words(one, (day.head_place(0, name), value)))
+    # The last of two.
+    beyond = (2, 2, 31, 200001, -200001, 3, 65)
+    day = filled_day(rng, SMALL, CISO)
+    two = day.to_bytes()
+    for name, value in zip(HEAD, beyond):
+        yield Case(CHECK, 0, with_words(two, (day.head_place(1, name), value)))
+    # K of kind 1 is 1 to 64 (64 then has the wrong size); the kind turned to 0 makes K 3 break.
+    day = filled_day(rng, CISO)
+    one = day.to_bytes()
+    for count in (0, 64, 65, 0xFFFFFFFF):
+        yield Case(CHECK, 0, with_words(one, (day.head_place(0, "coordinators"), count)))
+    yield Case(CHECK, 0, with_words(one, (day.head_place(0, "kind"), 0)))
+
+
+def check_second_ciso(rng):
+    """A second area of kind 1 breaks at its kind word; one is accepted anywhere."""
+    for kinds in ((1, 0), (0, 1), (1, 1), (1, 0, 1)):
+        yield Case(CHECK, 0, filled_day(rng, *[(kind, 1, 1) for kind in kinds]).to_bytes())
+    # The second breaks before its own flag, but after the first one's last demand.
+    day = filled_day(rng, (1, 1, 1), (1, 1, 1))
+    two = day.to_bytes()
+    yield Case(CHECK, 0, with_words(two, (day.head_place(1, "flag"), 2)))
+    yield Case(CHECK, 0, with_words(two, (day.demand_place(0, 23, 0), -1)))
+
+
+def check_coordinators(rng):
+    """Refusal 8: the first coordinator of the first area to the last of the last area."""
+    day = filled_day(rng, SMALL)
+    one = day.to_bytes()
+    place = day.coordinator_place(0, 0)
+    for number in (0, 1, LARGEST_NUMBER, 0x80000000, 0x80000001, 0xFFFFFFFF):
+        yield Case(CHECK, 0, with_words(one, (place, number)))
+    day = filled_day(rng, CISO)
+    day.areas[0].coordinators = [5, 6, 9]
+    one = day.to_bytes()
+    for coordinator, numbers in (
+        (0, (0, 6, 7, 0xFFFFFFFF)),
+        (1, (0, 5, 8, 9, 10, 0x80000006)),
+        (2, (0, 6, 7, LARGEST_NUMBER, 0x80000000)),
+    ):
+        for number in numbers:
+            place = day.coordinator_place(0, coordinator)
+            yield Case(CHECK, 0, with_words(one, (place, number)))
+    # The last of 64 behind another area.
+    day = filled_day(rng, SMALL, (1, 1, 64))
+    place = day.coordinator_place(1, 63)
+    yield Case(CHECK, 0, with_words(day.to_bytes(), (place, day.areas[1].coordinators[62])))
+
+
+def ends_day(shape, which):
+    """A day with every hourly number at the low (0) or high (1) end of its range."""
+    market = (-20000000, 20000000)[which]
+    day = days.quiet_day([shape], pair=((0, 10000000)[which], market), demand=0)
+    for hour in day.areas[0].hours:
+        parts = (0, 2500000)[which]
+        hour.set_upward([parts] * 4)
+        hour.set_downward([parts] * 2)
+        hour.requirement = (0, 50000000)[which]
+        hour.mec = market
+        hour.demands[-1] = (0, 100000000)[which]
+    return day
+
+
+def check_hourly_numbers(rng):
+    """Refusal 9: each number of an hour, one beyond each end of its range and at the ends of the
+    words, in the first hour of the first area and in the last hour of the last area."""
+    # At the ends of every range at once all is accepted, with missing prices too.
+    for shape in (SMALL, (1, 2, 3)):
+        for which in (0, 1):
+            yield Case(CHECK, 0, ends_day(shape, which).to_bytes())
+    missing = ends_day(SMALL, 1)
+    for hour in missing.areas[0].hours:
+        hour.pairs = [(10000000, MISSING)] * 12
+    yield Case(CHECK, 0, missing.to_bytes())
+
+    edges = (0x7FFFFFFF, 0x80000000, 0xFFFFFFFF)
+    market = (20000001, -20000001, 0x7FFFFFFF, 0x80000000, 0x80000001)
+    beyond = {name: (2500001, 0x80000000, 0xFFFFFFFF) for name in HOUR_NUMBERS}
+    beyond["requirement"] = (50000001,) + edges
+    beyond["mec"] = market
+    day = filled_day(rng, SMALL)
+    one = day.to_bytes()
+    for name in HOUR_NUMBERS:
+        for value in beyond[name]:
+            yield Case(CHECK, 0, with_words(one, (day.number_place(0, 0, name), value)))
+    # A price that is missing is accepted, the words next to it are not.
+    for pair in (0, 11):
+        for value in (10000001,) + edges:
+            yield Case(CHECK, 0, with_words(one, (day.quantity_place(0, 0, pair), value)))
+        for value in market:
+            yield Case(CHECK, 0, with_words(one, (day.price_place(0, 0, pair), value)))
+    for value in (100000000, 100000001) + edges:
+        yield Case(CHECK, 0, with_words(one, (day.demand_place(0, 0, 0), value)))
+
+    # The last hour, with three demands.
+    day = filled_day(rng, CISO)
+    last = day.to_bytes()
+    for name in HOUR_NUMBERS:
+        yield Case(CHECK, 0, with_words(last, (day.number_place(0, 23, name), beyond[name][0])))
+    for place, values in (
+        (day.quantity_place(0, 23, 11), (10000001, -1)),
+        (day.price_place(0, 23, 11), (20000001, -20000001)),
+        (day.demand_place(0, 23, 0), (-1,)),
+        (day.demand_place(0, 23, 2), (-1, 100000001, MISSING)),
+        # The hours next to each other: the end of one, the start of the other.
+        (day.demand_place(0, 22, 2), (-1,)),
+        (day.number_place(0, 23, "energy_up"), (-1,)),
+    ):
+        for value in values:
+            yield Case(CHECK, 0, with_words(last, (place, value)))
+    # The same at the end of one area, at the start and at the end of the next.
+    day = filled_day(rng, SMALL, CISO)
+    for place, value in (
+        (day.demand_place(0, 23, 0), -1),
+        (day.number_place(1, 0, "energy_up"), 2500001),
+        (day.demand_place(1, 23, 2), 100000001),
+    ):
+        yield Case(CHECK, 0, with_words(day.to_bytes(), (place, value)))
+    # Two load points: the last pair of the first, the first and last of the second.
+    day = filled_day(rng, (0, 2, 1))
+    wide = day.to_bytes()
+    for pair in (12, 23):
+        yield Case(CHECK, 0, with_words(wide, (day.quantity_place(0, 23, pair), 10000001)))
+        yield Case(CHECK, 0, with_words(wide, (day.price_place(0, 23, pair), 20000001)))
+
+
+def with_demands(day, hour, demands, area=0):
+    changes = [(day.demand_place(area, hour, k), demand) for k, demand in enumerate(demands)]
+    return with_words(day.to_bytes(), *changes)
+
+
+def check_running_demand(rng):
+    """Refusal 10: where the running demand of an hour first passes 100,000,000; 9 before 10."""
+    day = filled_day(rng, CISO)
+    for hour in (0, 23):
+        for demands in (
+            (100000000, 0, 0),
+            (0, 0, 100000000),
+            (50000000, 49999999, 1),
+            (100000000, 1, 0),
+            (100000000, 0, 1),
+            (50000000, 50000000, 1),
+            (50000001, 50000000, 0),
+            (100000000, 100000000, 100000000),
+            # Out of range at the word where the sum passes, and before and after it.
+            (100000000, 100000001, 0),
+            (100000000, -1, 2),
+            (99999999, 2, -1),
+            (100000001, 1, 1),
+            (60000000, 60000000, 0x7FFFFFFF),
+        ):
+            yield Case(CHECK, 0, with_demands(day, hour, demands))
+    # Each hour starts anew.
+    full = filled_day(rng, (1, 1, 2))
+    for hour in full.areas[0].hours:
+        hour.demands = [40000000, 60000000]
+    yield Case(CHECK, 0, full.to_bytes())
+    # The last of 64, with a sum that 32 bits do not hold if all were taken.
+    day = filled_day(rng, (1, 1, 64))
+    yield Case(CHECK, 0, with_demands(day, 23, [1562500] * 64))
+    yield Case(CHECK, 0, with_demands(day, 23, [1562500] * 63 + [1562501]))
+    # In the second area.
+    day = filled_day(rng, SMALL, (1, 1, 2))
+    yield Case(CHECK, 0, with_demands(day, 23, [100000000, 1], area=1))
+
+
+def check_several_broken(rng):
+    """Several rules broken at once: the first word in file order wins."""
+    day = filled_day(rng, (1, 1, 2))
+    one = day.to_bytes()
+    # Words that break their own rule, in file order.
+    broken = [
+        (0, 2),
+        (1, 20250229),
+        (2, 9),
+        (3, 1),
+        (4, 0),
+        (5, 8),
+        (6, 799),
+        (day.head_place(0, "kind"), 2),
+        (day.head_place(0, "flag"), 2),
+        (day.head_place(0, "persistent_days"), 31),
+        (day.head_place(0, "hub_a"), 200001),
+        (day.head_place(0, "hub_b"), 200001),
+        (day.head_place(0, "load_points"), 0),
+        (day.head_place(0, "coordinators"), 65),
+        (day.coordinator_place(0, 0), 0),
+        (day.coordinator_place(0, 1), 0),
+        (day.number_place(0, 0, "energy_up"), -1),
+        (day.number_place(0, 0, "mec"), MISSING),
+        (day.price_place(0, 0, 0), -20000001),
+        (day.demand_place(0, 0, 1), -1),
+        (day.number_place(0, 23, "spin"), -1),
+        (day.demand_place(0, 23, 1), 100000001),
+    ]
+    for earlier, later in zip(broken, broken[1:]):
+        yield Case(CHECK, 0, with_words(one, earlier, later))
+    for _ in range(6):
+        picked = [broken[rng.randrange(len(broken))] for _ in range(between(rng, 3, 6))]
+        yield Case(CHECK, 0, with_words(one, *picked))
+    # The size before the first word; a word of the header before a wrong file end, and that
+    # before a body.
+    yield Case(CHECK, 0, with_words(one, *broken)[:-1])
+    yield Case(CHECK, 0, with_words(one, *broken))
+    yield Case(CHECK, 0, with_words(one, (3, 1))[:-4])
+    yield Case(CHECK, 0, with_words(one, (day.head_place(0, "kind"), 2))[:-4])
+    # Contents before bodies, and an area's last word before the next area.
+    day = filled_day(rng, SMALL, (1, 1, 2))
+    two = day.to_bytes()
+    first_kind, second_kind = (day.head_place(0, "kind"), 2), (day.head_place(1, "kind"), 2)
+    yield Case(CHECK, 0, with_words(two, (9, 826), first_kind))
+    yield Case(CHECK, 0, with_words(two, (day.demand_place(0, 23, 0), -1), second_kind))
+    # 4 for word 1 before 3 for word 2, in the shortest file.
+    yield Case(CHECK, 0, days.bytes_of(header(n=0, date=20261301, peak=1)))
+    yield Case(CHECK, 0, days.bytes_of(header(n=0, peak=1)))
+
+
+def check_accepted(rng):
+    """Random days, which the check accepts."""
+    for _ in range(10):
+        yield Case(CHECK, 0, days.random_day(rng).to_bytes())
+
+
+EDGE_WORDS = (
+    (0, 1, 2, 3, 7, 30, 31, 64, 65, 799, 800, 801, 1376, 2951, 2952, 10000, 10001)
+    + (199999, 200000, 200001, 2500000, 2500001, 10000000, 10000001, 20000000, 20000001)
+    + (50000000, 50000001, 100000000, 100000001, 0x7FFFFFFF, 0x80000000, 0x80000001, 0xFFFFFFFF)
+    + (-200000, -200001, -20000000, -20000001, DATE, PEAK_WORD)
+)
+
+
+def between(rng, low, high):
+    return rng.randrange(low, high + 1)
+
+
+def damaged_word(rng, word):
+    """Another value for a word: an end of some range, a neighbour, a turned bit, or anything."""
+    return rng.choice(
+        (
+            rng.choice(EDGE_WORDS),
+            rng.choice(EDGE_WORDS),
+            word + rng.choice((-1, 1)),
+            word ^ 1 << rng.randrange(32),
+            rng.randrange(1 << 32),
+        )
+    )
+
+
+def damaged(rng, file_bytes, count):
+    """Some words of a file changed; half of them in its first words and heads, where most of the
+    rules are."""
+    words = list(reference.words_of(file_bytes))
+    heads = [words[5 + 3 * entry] + k for entry in range(words[2]) for k in range(10)]
+    telling = list(range(4 + 3 * words[2])) + heads
+    changes = []
+    for _ in range(count):
+        place = rng.choice((rng.choice(telling), rng.randrange(len(words))))
+        changes.append((place, damaged_word(rng, words[place])))
+    return with_words(file_bytes, *changes)
+
+
+def small_day(rng):
+    """A random day of mostly one area, without the widest shapes."""
+    ciso = (1, 1, between(rng, 1, 4))
+    two = rng.choice(([SMALL, ciso], [ciso, SMALL]))
+    shapes = rng.choice([[SMALL]] * 4 + [[ciso]] * 4 + [two])
+    return days.random_day_of(rng, shapes)
+
+
+def check_damage(rng):
+    """Accepted files with one word changed, and with several."""
+    for _ in range(95):
+        yield Case(CHECK, 0, damaged(rng, small_day(rng).to_bytes(), 1))
+    for _ in range(40):
+        yield Case(CHECK, 0, damaged(rng, small_day(rng).to_bytes(), between(rng, 2, 6)))
+
+
+# Call 5: the lookup
+
+
+def lookup_every_area(rng):
+    """Each area of several files, and the numbers next to it."""
+    for shapes in ([SMALL], [CISO]):
+        day = days.random_day_of(rng, shapes)
+        number = day.areas[0].number
+        for looked_for in (number, number + 1, number - 1, number + (1 << 31)):
+            yield Case(LOOKUP, looked_for, day.to_bytes())
+    for shapes in ([SMALL, CISO], [(1, 1, 2), SMALL, SMALL]):
+        day = days.random_day_of(rng, shapes)
+        for area in day.areas:
+            yield Case(LOOKUP, area.number, day.to_bytes())
+        yield Case(LOOKUP, day.areas[-1].number + 1, day.to_bytes())
+    # The ends of the area numbers; eight areas, the first and the last.
+    ends = days.random_day_of(rng, [SMALL, SMALL])
+    ends.areas[0].number, ends.areas[1].number = 1, LARGEST_NUMBER
+    for number in (0, 1, LARGEST_NUMBER, 0xFFFFFFFF):
+        yield Case(LOOKUP, number, ends.to_bytes())
+    eight = days.quiet_day([SMALL] * 8)
+    for area in (0, 7):
+        yield Case(LOOKUP, eight.areas[area].number, eight.to_bytes())
+
+
+def lookup_absent(rng):
+    """Numbers that no area can have, and numbers that stand elsewhere in the file."""
+    day = days.random_day_of(rng, [CISO])
+    for number in (0, 1, 7, 850, 0x80000000, 0xFFFFFFFF):
+        if number != day.areas[0].number:
+            yield Case(LOOKUP, number, day.to_bytes())
+    # A coordinator's number is no area's.
+    for coordinator in day.areas[0].coordinators:
+        yield Case(LOOKUP, coordinator, day.to_bytes())
+
+
+def lookup_in_refused(rng):
+    """The number stands in the contents, but the check refuses the file."""
+    for file_bytes in refused_files(rng):
+        words = reference.words_of(file_bytes[: len(file_bytes) // 4 * 4])
+        yield Case(LOOKUP, words[4] if len(words) > 4 else 1, file_bytes)
+    # The area looked for is whole; another is not.
+    day = filled_day(rng, SMALL, SMALL)
+    file_bytes = with_words(day.to_bytes(), (day.demand_place(1, 23, 0), -1))
+    yield Case(LOOKUP, day.areas[0].number, file_bytes)
+
+
+def lookup_in_short(rng):
+    """Files of 0 to 20 bytes."""
+    small = filled_day(rng, SMALL).to_bytes()
+    for size in range(21):
+        yield Case(LOOKUP, 0, bytes(size))
+        yield Case(LOOKUP, reference.words_of(small)[4], small[:size])
+
+
+def lookup_vector_files(rng):
+    """The last area of the smaller files of vectors/."""
+    for file_bytes in vector_files():
+        if len(file_bytes) <= 9000 and reference.check(file_bytes) == (0, 0):
+            words = reference.words_of(file_bytes)
+            yield Case(LOOKUP, words[1 + 3 * words[2]], file_bytes)
+
+
+# Call 2: settling
+
+
+def settle_vector_files(rng):
+    """Every file of vectors/, in exactly the numbers needed."""
+    for file_bytes in vector_files():
+        yield Case(SETTLE, needed(file_bytes) or 5, file_bytes)
+
+
+def settle_tier_figures(rng):
+    """T1 to T5 without peak hours: the off-peak amount tells the tier of each hour. The deficiency
+    stands in another of the four numbers each time."""
+    figures = (
+        (600000, 10000),
+        (600000, 10001),
+        (600000, 300000),
+        (600000, 300001),
+        (2000000, 20000),
+        (2000000, 20001),
+        (10000, 8000),
+        (10000, 10001),
+        (1000050, 10000),
+        (1000050, 10001),
+        # 1% and half of Q at numbers that do not divide, and Q 0.
+        (1000100, 10001),
+        (1000099, 10001),
+        (20001, 10001),
+        (20002, 10001),
+        (20003, 10002),
+        (0, 1),
+        (0, 10000),
+        (0, 10001),
+        (50000000, 500000),
+        (50000000, 500001),
+        (20000000, 10000000),
+        (19999999, 10000000),
+        (1, 1),
+        (0, 0),
+    )
+    for peak in (0, PEAK_WORD):
+        day = days.quiet_day([SMALL], peak=peak)
+        day.areas[0].hub_a = 8000
+        for number, (requirement, total) in enumerate(figures):
+            hour = day.areas[0].hours[number]
+            hour.requirement = requirement
+            parts = days.parts_of(rng, total, 4) if total > 2500000 else [total, 0, 0, 0]
+            hour.set_upward(parts[-(number % 4) :] + parts[: -(number % 4)])
+        yield Case(SETTLE, 96, day.to_bytes())
+
+
+def on_peak_day(persistent_days=3, hub_a=8000, hub_b=9550, failing=120000):
+    """T6 and T7: M 120 MW in hour ending 7, tier 1 in hour ending 8, passed hours from there."""
+    day = days.quiet_day([SMALL], pair=(1000, 0))
+    area = day.areas[0]
+    area.persistent_days, area.hub_a, area.hub_b = persistent_days, hub_a, hub_b
+    for hour in area.hours:
+        hour.requirement = 600000
+    area.hours[6].energy_up = failing
+    area.hours[7].spin = 10000
+    for hour, price in ((8, 600000), (9, 1300000), (10, -50000), (11, 1), (12, -1)):
+        area.hours[hour].pairs = [(1000, price)] * 12
+    return day
+
+
+def settle_on_peak_figures(rng):
+    """T6 and T7, and the same day with other hubs, days and tiers."""
+    for day in (
+        on_peak_day(),
+        on_peak_day(hub_a=9550, hub_b=8000),
+        on_peak_day(persistent_days=0),
+        on_peak_day(persistent_days=30),
+        on_peak_day(failing=300000),
+        on_peak_day(failing=300001),
+        # Day tier 1: nothing, though hours are passed at negative prices.
+        on_peak_day(failing=10000),
+        # Both hub prices negative: S is 0, and a negative credit is still an amount.
+        on_peak_day(hub_a=-8000, hub_b=-1),
+        on_peak_day(hub_a=-200000, hub_b=0),
+        on_peak_day(hub_a=200000, hub_b=-200000, persistent_days=30, failing=2500000),
+    ):
+        yield Case(SETTLE, 96, day.to_bytes())
+    # The highest U and the highest tier in different peak hours; a higher one off-peak counts not.
+    day = on_peak_day()
+    day.areas[0].hours[21].requirement = 20000
+    day.areas[0].hours[21].non_spin = 10001
+    day.areas[0].hours[22].energy_up = 900000
+    day.areas[0].hours[5].energy_up = 900000
+    yield Case(SETTLE, 96, day.to_bytes())
+    # The same without peak hours, and with flag 0.
+    day.peak = 0
+    yield Case(SETTLE, 96, day.to_bytes())
+    day.peak = PEAK_WORD
+    day.areas[0].flag = 0
+    yield Case(SETTLE, 96, day.to_bytes())
+
+
+def settle_downward_figures(rng):
+    """T8 and T9, in peak and other hours, with the deficiency in either number."""
+    figures = (
+        (10000, -1000000),
+        (10001, -1000000),
+        (12500, -100),
+        (12500, 400000),
+        (12500, -300),
+        (12500, -50),
+        (10001, 0),
+        (10001, -1),
+        (5000000, -20000000),
+        (5000000, 20000000),
+        (0, -20000000),
+        (2500001, -20000000),
+    )
+    for peak in (0, PEAK_WORD):
+        day = days.quiet_day([SMALL], peak=peak)
+        for number in range(24):
+            total, mec = figures[number % 12]
+            hour = day.areas[0].hours[number]
+            rest = max(0, total - 2500000)
+            hour.set_downward((total - rest, rest) if number < 12 else (rest, total - rest))
+            hour.mec = mec
+        yield Case(SETTLE, 96, day.to_bytes())
+        day.areas[0].flag = 0
+        yield Case(SETTLE, 96, day.to_bytes())
+
+
+def settle_halves(rng):
+    """Amounts that are a whole number and a half of cents: off-peak, on-peak with and without
+    credit, downward."""
+    for _ in range(12):
+        day = days.quiet_day([(1, 1, 2)], peak=PEAK_WORD)
+        area = day.areas[0]
+        # M × P × m × (100 + d) in 400,000ths of a cent leaves one half: M a multiple of 4,000 MW
+        # thousandths, P, 100 + d and the sum of terms odd.
+        area.persistent_days = 2 * between(rng, 0, 14) + 1
+        area.hub_a = 2 * between(rng, 500, 9000) + 1
+        area.hub_b = between(rng, -500, 999)
+        failing = 40000 * (2 * between(rng, 0, 5) + 1)
+        for number, hour in enumerate(area.hours):
+            hour.requirement = 4 * failing
+            hour.demands = [between(rng, 0, 9), between(rng, 1, 9)]
+            # 12.500 MW at an odd number of cents a MWh; U 20 MW at 1.25 and odd prices of $0.01.
+            hour.set_downward((12500, 0))
+            hour.mec = -100 * (2 * between(rng, 0, 999) + 1)
+            hour.pairs = [(1000, 100 * between(rng, -999, 9999))] * 12
+            if not 6 <= number < 22:
+                hour.requirement = 100000
+                hour.energy_up = rng.choice((10002, 20000, 30000, 50010, 52500))
+                hour.pairs = [(1000, 20 * (2 * between(rng, 0, 9999) + 1))] * 12
+        area.hours[between(rng, 6, 21)].spin = failing
+        yield Case(SETTLE, 24 * 5, day.to_bytes())
+
+
+def settle_rooms(rng):
+    """Room for exactly the numbers needed, one short, none, and more: numbers past them stay."""
+    for shapes in ([SMALL], [(1, 1, 2)], [SMALL, (1, 1, 2)]):
+        day = filled_day(rng, *shapes)
+        room = day.numbers_needed()
+        for lent in (room, room - 1, 0, 1, room // 2, room + 1, room + 7, 2 * room):
+            yield Case(SETTLE, lent, day.to_bytes())
+    # The longest room of the vectors program.
+    yield Case(SETTLE, 8192, filled_day(rng, SMALL).to_bytes())
+
+
+def settle_refused(rng):
+    """The numbers of the check, with room and without: they come before 13."""
+    for file_bytes in refused_files(rng):
+        yield Case(SETTLE, 9, file_bytes)
+        yield Case(SETTLE, 0, file_bytes)
+
+
+def failing_day(shapes, peak=0):
+    """A quiet day with a failure of tier 2 in every hour of every area."""
+    day = days.quiet_day(shapes, peak=peak)
+    for area in day.areas:
+        area.hub_a = 5000
+        for hour in area.hours:
+            hour.requirement = 60000
+            hour.energy_up = 20000
+    return day
+
+
+def without_price(hour):
+    hour.pairs = [(quantity, MISSING) for quantity, _ in hour.pairs]
+
+
+def without_quantity(hour):
+    hour.pairs = [(0, price) for _, price in hour.pairs]
+
+
+def settle_no_price(rng):
+    """Refusal 11 at the first and last hour and area where it can come, and where no price is
+    needed."""
+    two = [SMALL, (1, 1, 2)]
+    # Off-peak hours of tier 2, without peak hours: area and hour of the first gap.
+    for area, hour in ((0, 0), (0, 23), (1, 0), (1, 23)):
+        for gap in (without_price, without_quantity):
+            day = failing_day(two)
+            gap(day.areas[area].hours[hour])
+            yield Case(SETTLE, day.numbers_needed(), day.to_bytes())
+    # Present prices without quantity beside quantities without price.
+    day = failing_day([(0, 2, 1)])
+    day.areas[0].hours[23].pairs = [(0, 5000), (9000, MISSING)] * 12
+    yield Case(SETTLE, 96, day.to_bytes())
+    # Two gaps: the first in order.
+    day = failing_day([SMALL])
+    without_price(day.areas[0].hours[9])
+    without_quantity(day.areas[0].hours[4])
+    yield Case(SETTLE, 96, day.to_bytes())
+    # One interval of quantity 1 is enough.
+    day = failing_day([SMALL])
+    day.areas[0].hours[23].pairs = [(500, MISSING)] * 11 + [(1, -300000)]
+    yield Case(SETTLE, 96, day.to_bytes())
+    # Peak hours: needed in tier 0 of a day of tier 2 or 3, also where S is 0.
+    for hub, hour in ((5000, 6), (5000, 21), (-5000, 21)):
+        day = on_peak_day(hub_a=hub, hub_b=hub)
+        day.areas[0].hours[6].energy_up = 0
+        day.areas[0].hours[13].energy_up = 120000
+        without_price(day.areas[0].hours[hour])
+        yield Case(SETTLE, 96, day.to_bytes())
+    # Not needed: peak hours of tier 1 to 3, tier 0 and 1 off-peak, a day of tier 1, flag 0.
+    day = on_peak_day()
+    for hour in (0, 5, 6, 7, 22, 23):
+        without_price(day.areas[0].hours[hour])
+    day.areas[0].hours[23].energy_up = 10000
+    yield Case(SETTLE, 96, day.to_bytes())
+    for failing, flag in ((10000, 1), (120000, 0), (120000, 1)):
+        day = on_peak_day(failing=failing)
+        day.areas[0].flag = flag
+        for hour in day.areas[0].hours:
+            without_price(hour)
+        yield Case(SETTLE, 96, day.to_bytes())
+    # 13 before 11.
+    day = failing_day([SMALL])
+    without_price(day.areas[0].hours[0])
+    yield Case(SETTLE, 95, day.to_bytes())
+    yield Case(SETTLE, 0, day.to_bytes())
+
+
+def settle_no_demand(rng):
+    """Refusal 12 at the first and last hour, in competition with 11 and 13, and where it cannot
+    come."""
+    shapes = [(1, 1, 2), SMALL]
+    for shape_order in (shapes, shapes[::-1]):
+        ciso = shape_order.index((1, 1, 2))
+        for hour in (0, 23):
+            day = failing_day(shape_order)
+            day.areas[ciso].hours[hour].demands = [0, 0]
+            yield Case(SETTLE, day.numbers_needed(), day.to_bytes())
+        # The other area lacks a price in its last hour: areas in order.
+        day = failing_day(shape_order)
+        day.areas[ciso].hours[0].demands = [0, 0]
+        without_price(day.areas[1 - ciso].hours[23])
+        yield Case(SETTLE, day.numbers_needed(), day.to_bytes())
+    # 12 and 11 in one hour, 12 in the hour before, 11 in the hour before; each with 13.
+    for dry, gap in ((8, 8), (7, 8), (8, 7)):
+        day = failing_day([(1, 1, 2)])
+        day.areas[0].hours[dry].demands = [0, 0]
+        without_price(day.areas[0].hours[gap])
+        yield Case(SETTLE, 120, day.to_bytes())
+        yield Case(SETTLE, 119, day.to_bytes())
+    # All demands 0: no amount, flag 0 and kind 0 have nothing to refuse.
+    quiet = days.quiet_day([(1, 1, 2)], demand=0)
+    yield Case(SETTLE, 120, quiet.to_bytes())
+    for kind, flag in ((1, 0), (1, 1), (0, 1)):
+        day = failing_day([(kind, 1, 1)])
+        day.areas[0].flag = flag
+        for hour in day.areas[0].hours:
+            hour.demands = [0]
+            hour.set_downward((20000, 0))
+            hour.mec = -300000
+        yield Case(SETTLE, 96, day.to_bytes())
+    # Amounts that cancel: 20 MW at 25.00 and 1.25 is $625.00, 20 MW at -31.25 takes it back.
+    for mec in (-312500, -312501, -312499):
+        day = days.quiet_day([(1, 1, 2)], peak=0, demand=0)
+        hour = day.areas[0].hours[17]
+        hour.requirement, hour.energy_up, hour.energy_down, hour.mec = 60000, 20000, 20000, mec
+        yield Case(SETTLE, 120, day.to_bytes())
+    # Only a downward amount, in a peak hour.
+    day = days.quiet_day([(1, 1, 2)], demand=0)
+    day.areas[0].hours[12].regulation_down, day.areas[0].hours[12].mec = 10001, -1
+    yield Case(SETTLE, 120, day.to_bytes())
+    day.areas[0].hours[12].mec = -500
+    yield Case(SETTLE, 120, day.to_bytes())
+
+
+def settle_ends(rng):
+    """Every number at the end of its range, both kinds, both peak words: the largest amounts."""
+    sides = ((0, -200000, 0), (1, 200000, 2500000), (0, 200000, 2500000))
+    for shape in (SMALL, (1, 2, 3)):
+        for peak in (0, PEAK_WORD):
+            for which, hub, deficiency in sides:
+                day = ends_day(shape, which)
+                day.peak = peak
+                area = day.areas[0]
+                area.hub_a, area.hub_b, area.persistent_days = hub, -hub, 30
+                for number, hour in enumerate(area.hours):
+                    # Every third hour is passed, and has a credit in a peak hour.
+                    hour.set_upward([deficiency if number % 3 else 0] * 4)
+                    hour.set_downward([deficiency] * 2)
+                    hour.pairs = [(max(1, quantity), price) for quantity, price in hour.pairs]
+                    if shape != SMALL:
+                        hour.demands = [1, 0, 99999999]
+                yield Case(SETTLE, day.numbers_needed(), day.to_bytes())
+
+
+def settle_full_day(rng):
+    """Eight areas, one with 64 coordinators, two load points."""
+    shapes = [(0, 2, 1)] * 7 + [(1, 2, 64)]
+    for style in (days.REALISTIC, days.THRESHOLDS):
+        day = filled_day(rng, *shapes, style=style)
+        yield Case(SETTLE, day.numbers_needed(), day.to_bytes())
+
+
+def settle_thresholds(rng):
+    """Deficiencies around 10 MW, 1% of Q and half of Q."""
+    for _ in range(60):
+        shape = rng.choice((SMALL, SMALL, (1, 1, 2)))
+        day = days.random_day_of(rng, [shape], days.THRESHOLDS)
+        yield Case(SETTLE, day.numbers_needed(), day.to_bytes())
+
+
+def settle_random(rng):
+    """Random days of all styles; some have a needed price or a demand missing."""
+    for _ in range(180):
+        day = days.random_day(rng)
+        yield Case(SETTLE, day.numbers_needed() + rng.choice((0, 0, 1, 4)), day.to_bytes())
+
+
+# Call 3: the load-weighted price
+
+
+def pair_bytes(pairs):
+    return days.bytes_of([word for pair in pairs for word in pair])
+
+
+def price_lengths(rng):
+    """Both lengths, and others."""
+    plain = pair_bytes([(1000, 250000)] * 40)
+    for size in (0, 1, 8, 95, 96, 97, 100, 104, 184, 191, 192, 193, 196, 200, 288, 320):
+        yield Case(PRICE, 0, plain[:size])
+
+
+def price_ranges(rng):
+    """Refusal 9 at the first, second and last pair, by quantity and by price, and both ends."""
+    for count in (12, 24):
+        for place in (0, 1, 11, count - 1):
+            for pair in (
+                (10000000, 20000000),
+                (10000000, -20000000),
+                (0, MISSING),
+                (10000001, 0),
+                (-1, 0),
+                (0x7FFFFFFF, 0),
+                (0x80000000, 0),
+                (1, 20000001),
+                (1, -20000001),
+                (1, 0x7FFFFFFF),
+                (1, 0x80000001),
+                (-1, MISSING),
+                (-1, 20000001),
+            ):
+                pairs = [(1000, 250000)] * count
+                pairs[place] = pair
+                yield Case(PRICE, 0, pair_bytes(pairs))
+    # Two pairs: the first in order; and 9 before 11.
+    for count in (12, 24):
+        pairs = [(1000, 250000)] * count
+        pairs[3], pairs[7] = (1, 20000001), (-1, 1)
+        yield Case(PRICE, 0, pair_bytes(pairs))
+        pairs = [(0, MISSING)] * count
+        pairs[-1] = (0, -20000001)
+        yield Case(PRICE, 0, pair_bytes(pairs))
+
+
+def price_without_quantity(rng):
+    """Refusal 11: no price, no quantity, or neither where the other is."""
+    for count in (12, 24):
+        for pairs in (
+            [(1000, MISSING)] * count,
+            [(0, MISSING)] * count,
+            [(0, 250000)] * count,
+            [(0, 250000), (1000, MISSING)] * (count // 2),
+            [(0, -250000)] + [(10000000, MISSING)] * (count - 1),
+        ):
+            yield Case(PRICE, 0, pair_bytes(pairs))
+            # One unit of quantity is enough.
+            yield Case(PRICE, 0, pair_bytes([(1, -7)] + pairs[1:]))
+            yield Case(PRICE, 0, pair_bytes(pairs[:-1] + [(1, 20000000)]))
+
+
+def price_figures(rng):
+    """T10, with the missing intervals before and after, and averages that end in a half."""
+    t10 = [(100000, 300000), (300000, 500000)]
+    yield Case(PRICE, 0, pair_bytes(t10 + [(0, MISSING)] * 10))
+    yield Case(PRICE, 0, pair_bytes(t10 + [(100000, MISSING)] * 10))
+    yield Case(PRICE, 0, pair_bytes([(100000, MISSING)] * 10 + t10))
+    yield Case(PRICE, 0, pair_bytes([(100000, MISSING)] * 22 + t10))
+    rest = [(0, 0)] * 10
+    for pairs in (
+        [(1, 1), (1, 0)],
+        [(1, -1), (1, 0)],
+        [(1, 3), (1, 0)],
+        [(1, -3), (1, 0)],
+        [(1, 2), (1, -1)],
+        [(1, 1), (1, -2)],
+        [(1, 1), (2, 0)],
+        [(2, 1), (1, 0)],
+        [(1, -1), (2, 0)],
+        [(2, -1), (1, 0)],
+        [(10000000, 20000000), (10000000, 19999999)],
+        [(10000000, -20000000), (10000000, -19999999)],
+        [(4999999, 1), (5000001, 0)],
+        [(5000000, 1), (5000000, 0)],
+        [(5000001, -1), (4999999, 0)],
+        [(1, 20000000), (1, -20000000)],
+    ):
+        yield Case(PRICE, 0, pair_bytes(pairs + rest))
+    for count in (12, 24):
+        for price in (20000000, -20000000, 1, -1, 0):
+            yield Case(PRICE, 0, pair_bytes([(10000000, price)] * count))
+
+
+def random_pair(rng):
+    style = rng.choice((days.REALISTIC, days.THRESHOLDS, days.EXTREME))
+    quantity = days.random_quantity(rng, style)
+    price = MISSING if days.chance(rng, 20) else days.random_market_price(rng, style)
+    return quantity, price
+
+
+def random_price_case(rng):
+    count = rng.choice((12, 24))
+    if days.chance(rng, 30):
+        # Small numbers, where a half is common.
+        pairs = [(between(rng, 0, 3), between(rng, -9, 9)) for _ in range(count)]
+    else:
+        pairs = [random_pair(rng) for _ in range(count)]
+    if days.chance(rng, 8):
+        place = rng.randrange(count)
+        pairs[place] = tuple(damaged_word(rng, word) for word in pairs[place])
+    payload = pair_bytes(pairs)
+    if days.chance(rng, 3):
+        payload = payload[: rng.randrange(len(payload))]
+    return Case(PRICE, 0, payload)
+
+
+def price_random(rng):
+    """Random pairs of both lengths."""
+    for _ in range(250):
+        yield random_price_case(rng)
+
+
+# Call 4: the sharing of one amount
+
+
+def share_case(amount, rows, lent=None):
+    return Case(SHARE, len(rows) if lent is None else lent, share_payload(amount, rows))
+
+
+def rows_of(demands):
+    return [(k + 1, demand) for k, demand in enumerate(demands)]
+
+
+def share_rows(rng):
+    """0, 1, 2, 64, 65 and 70 rows, with room for all of them and for none."""
+    for count in (0, 1, 2, 63, 64, 65, 70):
+        rows = rows_of([3 * k + 1 for k in range(count)])
+        for amount in (0, 1, -1, 1000, -99999, 10000000000, -10000000000, 10000000001):
+            yield share_case(amount, rows)
+        yield share_case(77, rows, lent=0)
+        yield share_case(77, rows, lent=count + 3)
+
+
+def share_amounts(rng):
+    """Refusal 15: both sides of ±10,000,000,000, and the ends of 64 bits."""
+    limit = 10000000000
+    ends = (limit, limit - 1, limit + 1, 1 << 40, (1 << 32) + 5, 1 << 62, (1 << 63) - 1)
+    for rows in (rows_of([1, 1, 1]), rows_of([99999999, 1]), rows_of([0, 0]), rows_of([5])):
+        for amount in ends:
+            yield share_case(amount, rows)
+            yield share_case(-amount, rows)
+        yield share_case(-(1 << 63), rows)
+
+
+def share_figures(rng):
+    """T11 in its three forms, T12, and the like with the other sign and with no demand in a row."""
+    for amount, demands in (
+        (100, (1, 1, 1)),
+        (100, (2, 1)),
+        (-100, (1, 1, 1)),
+        (-100, (2, 1)),
+        (1, (1, 0, 1)),
+        (-1, (1, 0, 1)),
+        (1, (0, 1, 1)),
+        (1, (1, 1)),
+        (-1, (1, 1)),
+        (3, (1, 1)),
+        (-3, (1, 1)),
+        (1, (0, 0, 0, 1)),
+        (1, (1, 0, 0, 0)),
+        (7, (0, 5, 0)),
+        (10000000000, (33333333, 33333333, 33333334)),
+        (-10000000000, (99999999, 1)),
+        (9999999999, (1, 99999999)),
+    ):
+        yield share_case(amount, rows_of(demands))
+        yield share_case(amount, rows_of(demands), lent=len(demands) + 2)
+
+
+def share_rows_refused(rng):
+    """8, 9 and 10 at the first and last row where they can come, both sides of each range."""
+    for count in (1, 3, 64):
+        plain = [(10 * k + 10, 1000) for k in range(count)]
+        for place in {1: (0,), 3: (0, 1, 2), 64: (0, 1, 63)}[count]:
+            before = plain[place - 1][0] if place else 0
+            for coordinator in (0, 1, before, before + 1, LARGEST_NUMBER, 0x80000000, 0xFFFFFFFF):
+                rows = list(plain)
+                rows[place] = (coordinator, 1000)
+                yield share_case(12345, rows)
+            for demand in (0, 99936000, 100000000, 100000001, 0x7FFFFFFF, 0x80000000, 0xFFFFFFFF):
+                rows = list(plain)
+                rows[place] = (plain[place][0], demand)
+                yield share_case(12345, rows)
+    for demands in (
+        (100000000, 0, 0),
+        (0, 0, 100000000),
+        (100000000, 1, 0),
+        (100000000, 0, 1),
+        (50000000, 50000000, 0),
+        (50000000, 50000000, 1),
+        (50000000, 50000001, -1),
+        (100000000, 100000001, 0),
+        (100000000, 100000000, 100000000),
+    ):
+        yield share_case(-54321, rows_of(demands))
+    yield share_case(64, rows_of([1562500] * 64))
+    yield share_case(64, rows_of([1562500] * 63 + [1562501]))
+    yield share_case(64, rows_of([100000000] * 64))
+
+
+def share_order(rng):
+    """Pairs of refusals: 1, 15, rows in order with 8, 9, 10 in a row, 13, 12."""
+    too_much = 10000000001
+    good = [(1, 5), (2, 5), (3, 5)]
+    dry = [(1, 0), (2, 0), (3, 0)]
+    bad_8 = [(1, 5), (1, 5), (3, 5)]
+    bad_9 = [(1, 5), (2, -1), (3, 5)]
+    bad_10 = [(1, 100000000), (2, 1), (3, 5)]
+    sixty_five = rows_of([0] * 65)
+    for amount, rows, lent in (
+        # 1 before 15, 8, 13 and 12.
+        (too_much, sixty_five, 0),
+        (1, sixty_five, 64),
+        (1, [(0, -1)] * 65, 65),
+        (too_much, [], 0),
+        (1, [], 5),
+        # 15 before the rows, 13 and 12.
+        (too_much, bad_8, 3),
+        (-too_much, bad_9, 3),
+        (too_much, bad_10, 0),
+        (too_much, good, 2),
+        (too_much, dry, 3),
+        # The rows before 13 and 12, also with amount 0.
+        (1, bad_8, 2),
+        (1, bad_9, 0),
+        (1, bad_10, 2),
+        (0, bad_8, 3),
+        (0, bad_9, 3),
+        (0, bad_10, 3),
+        (1, [(0, 0), (2, 0)], 2),
+        # 8 before 9 before 10 in one row; an earlier row before a later one.
+        (1, [(1, 5), (1, -1), (3, 5)], 3),
+        (1, [(1, 100000000), (1, 1), (3, 5)], 3),
+        (1, [(1, 100000000), (2, 100000001), (3, 5)], 3),
+        (1, [(1, 100000000), (1, 100000001), (3, 5)], 3),
+        (1, [(1, -1), (1, 5), (3, 5)], 3),
+        (1, [(1, 100000000), (2, 1), (2, -1)], 3),
+        (1, [(2, 5), (1, -1), (0, -1)], 3),
+        # 13 before 12; place the numbers needed.
+        (1, dry, 2),
+        (1, dry, 0),
+        (1, good, 2),
+        (1, good, 0),
+        (0, good, 2),
+        (0, dry, 2),
+        # 12, and nothing to refuse with amount 0.
+        (1, dry, 3),
+        (-1, dry, 4),
+        (1, [(9, 0)], 1),
+        (0, dry, 3),
+        (0, dry, 5),
+        (0, good, 5),
+    ):
+        yield share_case(amount, rows, lent)
+
+
+def random_share_case(rng):
+    count = rng.choice((1, 1, 2, 2, 3, 3, 4, 5, 7, between(rng, 1, 64), between(rng, 0, 70)))
+    style = rng.choice((days.REALISTIC, days.EXTREME))
+    demands = days.random_demands(rng, style, count, gaps=True) if count else []
+    coordinators = days.rising(rng, count, rng.choice((count + 3, LARGEST_NUMBER)))
+    rows = list(zip(coordinators, demands))
+    sizes = (1, 100, 99999, 10000000000, 10000000002)
+    size = rng.choice(sizes)
+    amount = rng.choice((size, -size, between(rng, -size, size), between(rng, -size, size)))
+    if rows and days.chance(rng, 12):
+        place = rng.randrange(count)
+        rows[place] = tuple(damaged_word(rng, word) for word in rows[place])
+    lent = min(128, count + rng.choice((0, 0, 0, 1, 5)))
+    if count and days.chance(rng, 6):
+        lent = rng.randrange(count)
+    return share_case(amount, rows, lent)
+
+
+def share_random(rng):
+    """Random amounts and rows."""
+    for _ in range(300):
+        yield random_share_case(rng)
+
+
+# Call 6: the C call
+
+
+def c_call_rooms(rng):
+    """Rooms in bytes: exact, a byte short, a byte to seven more, a number more, long, none."""
+    for shapes in ([SMALL], [(1, 1, 2)], [SMALL, CISO]):
+        day = filled_day(rng, *shapes)
+        room = 8 * day.numbers_needed()
+        for lent in (room, room - 1, room + 1, room + 7, room + 8, room - 8, 2 * room, 7, 0):
+            yield Case(C_CALL, lent, day.to_bytes())
+    yield Case(C_CALL, 65536, filled_day(rng, SMALL).to_bytes())
+
+
+def c_call_refused(rng):
+    """The numbers of the check, 11 and 12: nothing is written."""
+    for number, file_bytes in enumerate(refused_files(rng)):
+        yield Case(C_CALL, (768, 0)[number % 2], file_bytes)
+    day = failing_day([(1, 1, 2)])
+    day.areas[0].hours[23].demands = [0, 0]
+    yield Case(C_CALL, 960, day.to_bytes())
+    without_price(day.areas[0].hours[23])
+    yield Case(C_CALL, 960, day.to_bytes())
+    yield Case(C_CALL, 959, day.to_bytes())
+
+
+def c_call_random(rng):
+    """Random days, and the smaller files of vectors/."""
+    for _ in range(25):
+        day = days.random_day(rng)
+        yield Case(C_CALL, 8 * day.numbers_needed() + rng.choice((0, 3, 16)), day.to_bytes())
+    for file_bytes in vector_files():
+        if len(file_bytes) <= 12000:
+            yield Case(C_CALL, 8 * needed(file_bytes), file_bytes)
+
+
+# All groups in the stream's order, each with the call that it makes
+
+GROUPS = (
+    (CHECK, check_vector_files),
+    (CHECK, check_sizes),
+    (CHECK, check_most_bytes),
+    (CHECK, check_largest_accepted),
+    (CHECK, check_words_of_the_header),
+    (CHECK, check_dates),
+    (CHECK, check_contents),
+    (CHECK, check_lengths),
+    (CHECK, check_body_heads),
+    (CHECK, check_second_ciso),
+    (CHECK, check_coordinators),
+    (CHECK, check_hourly_numbers),
+    (CHECK, check_running_demand),
+    (CHECK, check_several_broken),
+    (CHECK, check_accepted),
+    (CHECK, check_damage),
+    (LOOKUP, lookup_every_area),
+    (LOOKUP, lookup_absent),
+    (LOOKUP, lookup_in_refused),
+    (LOOKUP, lookup_in_short),
+    (LOOKUP, lookup_vector_files),
+    (PRICE, price_lengths),
+    (PRICE, price_ranges),
+    (PRICE, price_without_quantity),
+    (PRICE, price_figures),
+    (PRICE, price_random),
+    (SHARE, share_rows),
+    (SHARE, share_amounts),
+    (SHARE, share_figures),
+    (SHARE, share_rows_refused),
+    (SHARE, share_order),
+    (SHARE, share_random),
+    (SETTLE, settle_vector_files),
+    (SETTLE, settle_tier_figures),
+    (SETTLE, settle_on_peak_figures),
+    (SETTLE, settle_downward_figures),
+    (SETTLE, settle_halves),
+    (SETTLE, settle_rooms),
+    (SETTLE, settle_refused),
+    (SETTLE, settle_no_price),
+    (SETTLE, settle_no_demand),
+    (SETTLE, settle_ends),
+    (SETTLE, settle_full_day),
+    (SETTLE, settle_thresholds),
+    (SETTLE, settle_random),
+    (C_CALL, c_call_rooms),
+    (C_CALL, c_call_refused),
+    (C_CALL, c_call_random),
+)
+
+
+def committed_cases(calls=None):
+    """The cases of the calls, with the name of their group; a case that came before is left out."""
+    calls = CALLS if calls is None else calls
+    seen = set()
+    for call, group in GROUPS:
+        if call not in calls:
+            continue
+        for case in group(random.Random("8080 " + group.__name__)):
+            if case not in seen:
+                seen.add(case)
+                yield group.__name__, case
+
+
+# Fresh random cases of every call
+
+
+def random_file(rng):
+    """Mostly a whole day, at times a damaged or cut one, seldom bytes of no day at all."""
+    what = rng.randrange(100)
+    file_bytes = (small_day(rng) if what % 2 else days.random_day(rng)).to_bytes()
+    if what < 65:
+        return file_bytes
+    if what < 85:
+        return damaged(rng, file_bytes, 1)
+    if what < 93:
+        return damaged(rng, file_bytes, between(rng, 2, 8))
+    if what < 96:
+        return file_bytes[: rng.randrange(len(file_bytes))]
+    if what < 98:
+        return file_bytes + bytes(between(rng, 1, 12))
+    return bytes(rng.randrange(256) for _ in range(between(rng, 0, 60)))
+
+
+def random_room(rng, file_bytes):
+    """Mostly the numbers needed, at times fewer or more."""
+    room = needed(file_bytes)
+    what = rng.randrange(100)
+    if what < 70:
+        return room
+    if what < 80:
+        return max(0, room - between(rng, 1, 3))
+    return min(8192, room + between(rng, 1, 40))
+
+
+def random_lookup_case(rng):
+    file_bytes = random_file(rng)
+    words = reference.words_of(file_bytes[: len(file_bytes) // 4 * 4])
+    numbers = [word & 0xFFFFFFFF for word in words[4:28:3]]
+    number = rng.choice(numbers) if numbers else rng.randrange(9)
+    if days.chance(rng, 25):
+        number = rng.choice((0, 1, number ^ 1, (number + 1) & 0xFFFFFFFF, 0xFFFFFFFF))
+    return Case(LOOKUP, number, file_bytes)
+
+
+def random_case(rng, call):
+    if call == PRICE:
+        return random_price_case(rng)
+    if call == SHARE:
+        return random_share_case(rng)
+    if call == LOOKUP:
+        return random_lookup_case(rng)
+    file_bytes = random_file(rng)
+    if call == CHECK:
+        return Case(CHECK, 0, file_bytes)
+    room = random_room(rng, file_bytes)
+    if call == SETTLE:
+        return Case(SETTLE, room, file_bytes)
+    return Case(C_CALL, min(65536, 8 * room + rng.choice((0, 0, 1, 7))), file_bytes)
+
+
+# The commands
+
+
+def made(calls=None):
+    """The whole stream and all of its lines."""
+    cases = [case for _, case in committed_cases(calls)]
+    stream = b"".join(case_bytes(case) for case in cases)
+    lines = "".join(line(case) for case in cases).encode("ascii")
+    return stream, lines
+
+
+def make():
+    stream, lines = made()
+    INPUT.parent.mkdir(parents=True, exist_ok=True)
+    INPUT.write_bytes(stream)
+    EXPECTED.write_bytes(lines)
+    print("%d cases, %d bytes of cases, %d bytes of lines" % (lines.count(b"\n"), len(stream), len(lines)))
+
+
+def check():
+    for path, bytes_due in zip((INPUT, EXPECTED), made()):
+        name = path.relative_to(ROOT).as_posix()
+        if not path.exists():
+            sys.exit("%s is missing; tools/vectors.py make writes it." % name)
+        if path.read_bytes() != bytes_due:
+            sys.exit("%s is not what tools/vectors.py makes." % name)
+
+
+def list_cases():
+    for number, (group, case) in enumerate(committed_cases(), 1):
+        print(number, group, case.call, case.x, len(case.payload))
+
+
+def write_stream(arguments):
+    calls = [int(call) for call in arguments.calls.split(",")]
+    rng = random.Random(arguments.seed)
+    with open(arguments.input, "wb") as stream, open(arguments.expected, "w") as lines:
+        for _ in range(arguments.cases):
+            case = random_case(rng, rng.choice(calls))
+            stream.write(case_bytes(case))
+            lines.write(line(case))
+
+
+def main():
+    parser = argparse.ArgumentParser(description="The cases of the vectors program.")
+    commands = parser.add_subparsers(dest="command", required=True)
+    commands.add_parser("make", help="write crates/vectors/stdin and crates/vectors/stdout")
+    commands.add_parser("check", help="exit 1 if what is committed differs")
+    commands.add_parser("list", help="print a line for each case")
+    stream = commands.add_parser("stream", help="write fresh random cases")
+    stream.add_argument("--seed", type=int, required=True)
+    stream.add_argument("--cases", type=int, required=True)
+    stream.add_argument("--input", required=True)
+    stream.add_argument("--expected", required=True)
+    stream.add_argument("--calls", default=",".join(str(call) for call in ALL_CALLS))
+    arguments = parser.parse_args()
+    if arguments.command == "make":
+        make()
+    elif arguments.command == "check":
+        check()
+    elif arguments.command == "list":
+        list_cases()
+    else:
+        write_stream(arguments)
+
+
+if __name__ == "__main__":
+    main()

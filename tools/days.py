@@ -120,10 +120,6 @@ class Day:
     # Places: the word where a number of the day stands. Areas, hours, pairs and coordinators
     # count from 0.
 
-    def entry_place(self, area):
-        """The area number's word in the contents; the start and the length follow it."""
-        return 4 + 3 * area
-
     def head_place(self, area, name):
         before = sum(len(earlier.words()) for earlier in self.areas[:area])
         return 4 + 3 * len(self.areas) + before + HEAD.index(name)

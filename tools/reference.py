@@ -378,8 +378,8 @@ def amounts(area, hour):
 
 
 def shares(A, demands):
-    """With running demands C0 = 0, C1, .. and total T, charge i = R(A × Ci / T) - R(A × C(i-1) / T);
-    all 0 when A = 0."""
+    """With running demands C0 = 0, C1, .. and total T,
+    charge i = R(A × Ci / T) - R(A × C(i-1) / T); all 0 when A = 0."""
     if A == 0:
         return [0] * len(demands)
     T = sum(demands)

@@ -1,7 +1,7 @@
 #!/usr/bin/env python3
 """The cases that the vectors program runs, and the line that it must print for each.
 
-    vectors.py make     writes crates/vectors/stdin (the cases) and crates/vectors/stdout (the lines)
+    vectors.py make     writes the cases to crates/vectors/stdin, the lines to crates/vectors/stdout
     vectors.py check    makes both anew and exits 1 if what is committed differs
     vectors.py list     prints for each case its line number, group, call, x and payload bytes
     vectors.py stream --seed N --cases M --input FILE --expected FILE [--calls 1,5]
@@ -31,7 +31,8 @@ sys.dont_write_bytecode = True  # running a tool leaves nothing behind in the re
 
 import days
 import reference
-from days import DATE, HEAD, HOUR_NUMBERS, LARGEST_NUMBER, MISSING, PEAK_WORD, with_words
+from days import DATE, HEAD, HOUR_NUMBERS, LARGEST_NUMBER, MISSING, PEAK_WORD
+from days import between, chance, with_words
 
 ROOT = Path(__file__).resolve().parent.parent
 INPUT = ROOT / "crates" / "vectors" / "stdin"
@@ -126,7 +127,8 @@ def filled_day(rng, *shapes, style=days.REALISTIC):
     return days.random_day_of(rng, shapes, style, PEAK_WORD, gaps=False)
 
 
-SMALL = (0, 1, 1)  # the smallest area: 800 words
+# Shapes of an area, (kind, L, K): the smallest, of 800 words, and one with three coordinators.
+SMALL = (0, 1, 1)
 CISO = (1, 1, 3)
 
 
@@ -312,7 +314,6 @@ def check_contents(rng):
     yield Case(CHECK, 0, with_words(three, (12, 801)))
     # The last of eight.
     eight = filled_day(rng, *[SMALL] * 8).to_bytes()
-    yield Case(CHECK, 0, with_words(eight, (25, reference.words_of(eight)[22])))
     yield Case(CHECK, 0, with_words(eight, (27, 799)))
 
 
@@ -351,12 +352,12 @@ def check_body_heads(rng):
     edges = (0x7FFFFFFF, 0x80000000, 0xFFFFFFFF)
     values = {
         "kind": (2, 256) + edges,
-        "flag": (0, 1, 2, 256) + edges,
+        "flag": (0, 1, 2, 256) + edges[1:],
         "persistent_days": (0, 30, 31) + edges,
         "hub_a": (-200000, 200000, -200001, 200001) + edges[:2],
         "hub_b": (-200000, 200000, -200001, 200001) + edges[:2],
-        "load_points": (0, 3) + edges,
-        "coordinators": (0, 2, 64, 65) + edges,
+        "load_points": (0, 3) + edges[1:],
+        "coordinators": (0, 2, 64) + edges[1:],
     }
     day = filled_day(rng, SMALL)
     one = day.to_bytes()
@@ -449,11 +450,10 @@ def check_hourly_numbers(rng):
         for value in beyond[name]:
             yield Case(CHECK, 0, with_words(one, (day.number_place(0, 0, name), value)))
     # A price that is missing is accepted, the words next to it are not.
-    for pair in (0, 11):
-        for value in (10000001,) + edges:
-            yield Case(CHECK, 0, with_words(one, (day.quantity_place(0, 0, pair), value)))
-        for value in market:
-            yield Case(CHECK, 0, with_words(one, (day.price_place(0, 0, pair), value)))
+    for value in (10000001,) + edges:
+        yield Case(CHECK, 0, with_words(one, (day.quantity_place(0, 0, 0), value)))
+    for value in market:
+        yield Case(CHECK, 0, with_words(one, (day.price_place(0, 0, 0), value)))
     for value in (100000000, 100000001) + edges:
         yield Case(CHECK, 0, with_words(one, (day.demand_place(0, 0, 0), value)))
 
@@ -500,21 +500,24 @@ def check_running_demand(rng):
     for hour in (0, 23):
         for demands in (
             (100000000, 0, 0),
-            (0, 0, 100000000),
             (50000000, 49999999, 1),
             (100000000, 1, 0),
             (100000000, 0, 1),
             (50000000, 50000000, 1),
-            (50000001, 50000000, 0),
-            (100000000, 100000000, 100000000),
-            # Out of range at the word where the sum passes, and before and after it.
-            (100000000, 100000001, 0),
-            (100000000, -1, 2),
-            (99999999, 2, -1),
-            (100000001, 1, 1),
-            (60000000, 60000000, 0x7FFFFFFF),
         ):
             yield Case(CHECK, 0, with_demands(day, hour, demands))
+    for demands in (
+        (0, 0, 100000000),
+        (50000001, 50000000, 0),
+        (100000000, 100000000, 100000000),
+        # Out of range at the word where the sum passes, and before and after it.
+        (100000000, 100000001, 0),
+        (100000000, -1, 2),
+        (99999999, 2, -1),
+        (100000001, 1, 1),
+        (60000000, 60000000, 0x7FFFFFFF),
+    ):
+        yield Case(CHECK, 0, with_demands(day, 12, demands))
     # Each hour starts anew.
     full = filled_day(rng, (1, 1, 2))
     for hour in full.areas[0].hours:
@@ -582,8 +585,8 @@ def check_several_broken(rng):
 
 def check_accepted(rng):
     """Random days, which the check accepts."""
-    for _ in range(10):
-        yield Case(CHECK, 0, days.random_day(rng).to_bytes())
+    for _ in range(6):
+        yield Case(CHECK, 0, small_day(rng).to_bytes())
 
 
 EDGE_WORDS = (
@@ -592,10 +595,6 @@ EDGE_WORDS = (
     + (50000000, 50000001, 100000000, 100000001, 0x7FFFFFFF, 0x80000000, 0x80000001, 0xFFFFFFFF)
     + (-200000, -200001, -20000000, -20000001, DATE, PEAK_WORD)
 )
-
-
-def between(rng, low, high):
-    return rng.randrange(low, high + 1)
 
 
 def damaged_word(rng, word):
@@ -628,13 +627,13 @@ def small_day(rng):
     """A random day of mostly one area, without the widest shapes."""
     ciso = (1, 1, between(rng, 1, 4))
     two = rng.choice(([SMALL, ciso], [ciso, SMALL]))
-    shapes = rng.choice([[SMALL]] * 4 + [[ciso]] * 4 + [two])
+    shapes = rng.choice([[SMALL]] * 7 + [[ciso]] * 7 + [two])
     return days.random_day_of(rng, shapes)
 
 
 def check_damage(rng):
     """Accepted files with one word changed, and with several."""
-    for _ in range(95):
+    for _ in range(90):
         yield Case(CHECK, 0, damaged(rng, small_day(rng).to_bytes(), 1))
     for _ in range(40):
         yield Case(CHECK, 0, damaged(rng, small_day(rng).to_bytes(), between(rng, 2, 6)))
@@ -655,14 +654,13 @@ def lookup_every_area(rng):
         for area in day.areas:
             yield Case(LOOKUP, area.number, day.to_bytes())
         yield Case(LOOKUP, day.areas[-1].number + 1, day.to_bytes())
-    # The ends of the area numbers; eight areas, the first and the last.
+    # The ends of the area numbers, and the last of eight areas.
     ends = days.random_day_of(rng, [SMALL, SMALL])
     ends.areas[0].number, ends.areas[1].number = 1, LARGEST_NUMBER
     for number in (0, 1, LARGEST_NUMBER, 0xFFFFFFFF):
         yield Case(LOOKUP, number, ends.to_bytes())
     eight = days.quiet_day([SMALL] * 8)
-    for area in (0, 7):
-        yield Case(LOOKUP, eight.areas[area].number, eight.to_bytes())
+    yield Case(LOOKUP, eight.areas[7].number, eight.to_bytes())
 
 
 def lookup_absent(rng):
@@ -829,29 +827,30 @@ def settle_downward_figures(rng):
 
 
 def settle_halves(rng):
-    """Amounts that are a whole number and a half of cents: off-peak, on-peak with and without
+    """Amounts that are a whole number of cents and a half: off-peak, on-peak with and without
     credit, downward."""
     for _ in range(12):
         day = days.quiet_day([(1, 1, 2)], peak=PEAK_WORD)
         area = day.areas[0]
-        # M × P × m × (100 + d) in 400,000ths of a cent leaves one half: M a multiple of 4,000 MW
-        # thousandths, P, 100 + d and the sum of terms odd.
+        # On-peak in cents is M × P × 5 × (100 + d) / 400,000 in tier 2: a half for M 40,000 times
+        # an odd number, P and 100 + d odd. The credit is a whole number at prices of whole cents.
         area.persistent_days = 2 * between(rng, 0, 14) + 1
         area.hub_a = 2 * between(rng, 500, 9000) + 1
         area.hub_b = between(rng, -500, 999)
-        failing = 40000 * (2 * between(rng, 0, 5) + 1)
+        M = 40000 * (2 * between(rng, 0, 5) + 1)
         for number, hour in enumerate(area.hours):
-            hour.requirement = 4 * failing
+            hour.requirement = 4 * M
             hour.demands = [between(rng, 0, 9), between(rng, 1, 9)]
-            # 12.500 MW at an odd number of cents a MWh; U 20 MW at 1.25 and odd prices of $0.01.
+            hour.pairs = [(1000, 100 * between(rng, -999, 9999))] * 12
+            # Downward in cents is W × MEC / 100,000.
             hour.set_downward((12500, 0))
             hour.mec = -100 * (2 * between(rng, 0, 999) + 1)
-            hour.pairs = [(1000, 100 * between(rng, -999, 9999))] * 12
             if not 6 <= number < 22:
+                # Off-peak in cents is U × price / 80,000 in tier 2, U × price / 50,000 in tier 3.
                 hour.requirement = 100000
-                hour.energy_up = rng.choice((10002, 20000, 30000, 50010, 52500))
+                hour.energy_up = rng.choice((14000, 22000, 30000, 51250, 53750))
                 hour.pairs = [(1000, 20 * (2 * between(rng, 0, 9999) + 1))] * 12
-        area.hours[between(rng, 6, 21)].spin = failing
+        area.hours[between(rng, 6, 21)].spin = M
         yield Case(SETTLE, 24 * 5, day.to_bytes())
 
 
@@ -1128,22 +1127,22 @@ def price_figures(rng):
 def random_pair(rng):
     style = rng.choice((days.REALISTIC, days.THRESHOLDS, days.EXTREME))
     quantity = days.random_quantity(rng, style)
-    price = MISSING if days.chance(rng, 20) else days.random_market_price(rng, style)
+    price = MISSING if chance(rng, 20) else days.random_market_price(rng, style)
     return quantity, price
 
 
 def random_price_case(rng):
     count = rng.choice((12, 24))
-    if days.chance(rng, 30):
+    if chance(rng, 30):
         # Small numbers, where a half is common.
         pairs = [(between(rng, 0, 3), between(rng, -9, 9)) for _ in range(count)]
     else:
         pairs = [random_pair(rng) for _ in range(count)]
-    if days.chance(rng, 8):
+    if chance(rng, 8):
         place = rng.randrange(count)
         pairs[place] = tuple(damaged_word(rng, word) for word in pairs[place])
     payload = pair_bytes(pairs)
-    if days.chance(rng, 3):
+    if chance(rng, 3):
         payload = payload[: rng.randrange(len(payload))]
     return Case(PRICE, 0, payload)
 
@@ -1307,11 +1306,11 @@ def random_share_case(rng):
     sizes = (1, 100, 99999, 10000000000, 10000000002)
     size = rng.choice(sizes)
     amount = rng.choice((size, -size, between(rng, -size, size), between(rng, -size, size)))
-    if rows and days.chance(rng, 12):
+    if rows and chance(rng, 12):
         place = rng.randrange(count)
         rows[place] = tuple(damaged_word(rng, word) for word in rows[place])
     lent = min(128, count + rng.choice((0, 0, 0, 1, 5)))
-    if count and days.chance(rng, 6):
+    if count and chance(rng, 6):
         lent = rng.randrange(count)
     return share_case(amount, rows, lent)
 
@@ -1418,6 +1417,7 @@ def committed_cases(calls=None):
     for call, group in GROUPS:
         if call not in calls:
             continue
+        # A text as seed is turned into a number in the same way everywhere, unlike its hash.
         for case in group(random.Random("8080 " + group.__name__)):
             if case not in seen:
                 seen.add(case)
@@ -1460,7 +1460,7 @@ def random_lookup_case(rng):
     words = reference.words_of(file_bytes[: len(file_bytes) // 4 * 4])
     numbers = [word & 0xFFFFFFFF for word in words[4:28:3]]
     number = rng.choice(numbers) if numbers else rng.randrange(9)
-    if days.chance(rng, 25):
+    if chance(rng, 25):
         number = rng.choice((0, 1, number ^ 1, (number + 1) & 0xFFFFFFFF, 0xFFFFFFFF))
     return Case(LOOKUP, number, file_bytes)
 
@@ -1497,7 +1497,8 @@ def make():
     INPUT.parent.mkdir(parents=True, exist_ok=True)
     INPUT.write_bytes(stream)
     EXPECTED.write_bytes(lines)
-    print("%d cases, %d bytes of cases, %d bytes of lines" % (lines.count(b"\n"), len(stream), len(lines)))
+    sizes = (lines.count(b"\n"), len(stream), len(lines))
+    print("%d cases, %d bytes of cases, %d bytes of lines" % sizes)
 
 
 def check():

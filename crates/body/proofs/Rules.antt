@@ -8,7 +8,40 @@ use borrow.Author.Tests.{leb-true, eqb-true}
 use Rattle.verdict.specs.Verdict.{numberOf}
 use Rattle.verdict.proofs.First.{kept, both}
 use Rattle.body.specs.Layout.{bodyWords}
-use Rattle.body.specs.Check.{countRule, demandRule}
+use Rattle.body.specs.Check.{headRule, countRule, demandRule}
+
+pub record Head (points ciso kind flag days hubA hubB load : ℕ) : Type 0 where
+  pub kind-known : kind ≤ 1
+  pub one-ciso : ciso + kind ≤ 1
+  pub flag-known : flag ≤ 1
+  pub days-few : days ≤ 30
+  pub hubA-small : hubA ≤ 200000
+  pub hubB-small : hubB ≤ 200000
+  pub load-some : 1 ≤ load
+  pub load-few : load ≤ points
+
+pub head-kept : (points ciso start kind flag days hubA hubB load : ℕ) → numberOf (headRule points ciso start kind flag days hubA hubB load) ≡ 0
+    → Head points ciso kind flag days hubA hubB load
+unfolding headRule
+head-kept points ciso start kind flag days hubA hubB load z =
+    let a = kept (leb kind 1) _ _ (λ q. omega arith) z in
+    let b = kept (leb (ciso + kind) 1) _ _ (λ q. omega arith) (a .1) in
+    let d = kept (leb flag 1) _ _ (λ q. omega arith) (b .1) in
+    let e = kept (leb days 30) _ _ (λ q. omega arith) (d .1) in
+    let f = kept (leb hubA 200000) _ _ (λ q. omega arith) (e .1) in
+    let g = kept (leb hubB 200000) _ _ (λ q. omega arith) (f .1) in
+    let h = kept (leb 1 load && leb load points) _ _ (λ q. omega arith) (g .1) in
+    let i = both (leb 1 load) _ (h .0) in
+    record {
+      kind-known = leb-true _ _ (a .0);
+      one-ciso = leb-true _ _ (b .0);
+      flag-known = leb-true _ _ (d .0);
+      days-few = leb-true _ _ (e .0);
+      hubA-small = leb-true _ _ (f .0);
+      hubB-small = leb-true _ _ (g .0);
+      load-some = leb-true _ _ (i .0);
+      load-few = leb-true _ _ (i .1);
+    }
 
 pub count-kept : (start size most load count : ℕ) → numberOf (countRule start size most load count) ≡ 0
     → (1 ≤ count) × (count ≤ most) × (size ≡ bodyWords load count)

@@ -75,7 +75,7 @@ fn count(start: usize, size: usize, most: usize, load: usize, count: usize) -> V
     Verdict::Accepted
 }
 
-fn coordinator(place: usize, before: u32, number: u32) -> Verdict
+pub fn coordinator(place: usize, before: u32, number: u32) -> Verdict
     ensures { λ r. ⌜ r ≡ coordinatorRule place before number ⌝ }
 {
     if number <= before {
@@ -163,7 +163,7 @@ fn intervals(start: usize, body: &[u8], from: usize, count: usize) -> Verdict
     Verdict::Accepted
 }
 
-fn demand(place: usize, before: u32, demand: u32) -> Verdict
+pub fn demand(place: usize, before: u32, demand: u32) -> Verdict
     requires { ⌜ before ≤ 100000000 ⌝ }
     ensures { λ r. ⌜ r ≡ demandRule place before demand ⌝ }
 {

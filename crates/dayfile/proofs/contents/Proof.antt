@@ -1,0 +1,66 @@
+use borrow.Author.Needs.{needs}
+use denote.Ref.{now}
+use Prim.Native.Nat.{ℕ, _+_, _*_, _-_, _/_, _≤_, _<_}
+use mathlib.Core.Path.{_≡_, refl, sym, ap, _∙_}
+use native.Mathlib.Omega.{arith}
+use native.Mathlib.Nat.{sub-zero}
+use native.Mathlib.Numerals.{add-one}
+use lib.ListN.{length}
+use Rattle.verdict.specs.First.{scan}
+use Rattle.verdict.proofs.First.{loop-next, loop-stop, loop-done}
+use Rattle.dayfile.specs.File.{numberBefore, dueAt}
+use Rattle.dayfile.specs.Check.{entryOf, contentsRule}
+use Rattle.dayfile.proofs.contents.Statement.{statement}
+use Rattle.dayfile.proofs.contents.Tie as tie
+
+abbrev Inv-loop : tie.InvT-loop
+Inv-loop most file n size before₀ due₀ k₀ before due k =
+    (k ≤ n) × (before ≡ numberBefore file k) × (due ≡ dueAt file n k) × (contentsRule most file n ≡ scan (entryOf most file n) k (n - k))
+
+abbrev μ-loop : tie.MeasureT-loop
+μ-loop most file n size before₀ due₀ k₀ before due k = n - k
+
+turn : (c : tie.After-entry Inv-loop μ-loop) → let s = c .before .before .before .before .before .before .before .args in c .entry .result ≡ entryOf (s .most) (now (s .file)) (s .n) (c .before .before .before .before .before .loop .k)
+unfolding entryOf
+turn c = cc
+
+loop-holds : tie.Need-loop-holds Inv-loop μ-loop
+unfolding numberBefore dueAt contentsRule
+loop-holds c = (omega arith, refl, refl, simp sub-zero)
+
+returns : tie.Need-returns Inv-loop μ-loop
+returns c = let e = turn (c .before .before) in search loop-stop
+
+loop-again : tie.Need-loop-again Inv-loop μ-loop
+unfolding numberBefore dueAt
+loop-again c = let e = turn (c .before .before) in (omega arith, rw add-one (cc), rw add-one (cc), search loop-next)
+
+returns-2 : tie.Need-returns-2 Inv-loop μ-loop
+returns-2 c = search loop-done
+
+pub contents-spec : {M : Type 1} → statement M
+contents-spec =
+    tie.close
+    (tie.spec
+    Inv-loop
+    μ-loop
+    (λ c. search needs)
+    (λ c. search needs)
+    loop-holds
+    (λ c. search needs)
+    (λ c. search needs)
+    (λ c κs. search needs)
+    (λ c. search needs)
+    (λ c κs. search needs)
+    (λ c. search needs)
+    (λ c. search needs)
+    (λ c κs. search needs)
+    (λ c. search needs)
+    (λ c κs. search needs)
+    (λ c κs. search needs)
+    returns
+    (λ c. search needs)
+    (λ c. search needs)
+    (λ c. search needs)
+    loop-again
+    returns-2)

@@ -1,0 +1,141 @@
+use borrow.Author.Needs.{needs}
+use denote.Ref.{now}
+use Prim.Native.Nat.{ℕ, suc, _+_, _*_, _-_, _/_, _≤_, _<_}
+use mathlib.Core.Bool.{cond}
+use mathlib.Core.List.{List, []}
+use mathlib.Core.Path.{_≡_, refl, sym, ap, _∙_}
+use native.Mathlib.Omega.{arith}
+use native.Mathlib.Nat.{sub-zero}
+use native.Mathlib.Numerals.{add-one}
+use lib.Dec.{eqb}
+use lib.ListN.{length}
+use borrow.Author.Tests.{eq-eqb, ne-eqb}
+use Rattle.words.specs.Word.{wordAt}
+use Rattle.limits.specs.Editions.{editionOne}
+use Rattle.verdict.specs.Verdict.{numberOf}
+use Rattle.dayfile.specs.File.{numberAt, bodyAt}
+use Rattle.dayfile.specs.Check.{checkOf, checkWithin}
+use Rattle.dayfile.specs.Lookup.{bodyFrom}
+use Rattle.dayfile.proofs.Facts.{file-head, file-entry}
+use Rattle.dayfile.proofs.find.Statement.{statement}
+use Rattle.dayfile.proofs.find.Tie as tie
+
+abbrev Inv-loop : tie.InvT-loop
+Inv-loop file area n k₀ k =
+    (k ≤ n) × (n ≡ wordAt file 2) × (bodyFrom file area 0 (wordAt file 2) ≡ bodyFrom file area k (n - k))
+
+abbrev μ-loop : tie.MeasureT-loop
+μ-loop file area n k₀ k = n - k
+
+-- at k below n: the entry, or the rest
+module _ (file : List ℕ) (area k n : ℕ) (below : k < n) where
+  unroll : bodyFrom file area k (n - k) ≡ cond (eqb (numberAt file k) area) (bodyAt file k) (bodyFrom file area (k + 1) (n - (k + 1)))
+  unfolding bodyFrom
+  unroll =
+      let e : n - k ≡ suc (n - (k + 1)) = omega arith in
+      rw (e, add-one k)
+
+  here : numberAt file k ≡ area → bodyFrom file area k (n - k) ≡ bodyAt file k
+  here h = unroll ∙ simp (eq-eqb _ _ h)
+
+  next : (numberAt file k ≡ area → ⊥) → bodyFrom file area k (n - k) ≡ bodyFrom file area (k + 1) (n - (k + 1))
+  next h = unroll ∙ simp (ne-eqb _ _ h)
+
+none : (file : List ℕ) (area k n : ℕ) → n ≤ k → bodyFrom file area k (n - k) ≡ []
+unfolding bodyFrom
+none file area k n h =
+    let e : n - k ≡ 0 = omega arith in
+    rw e
+
+accepted : (s : tie.Start Inv-loop μ-loop) → numberOf (checkWithin editionOne (now (s .args .file))) ≡ 0
+unfolding checkOf
+accepted s = s .pre
+
+contents : (s : tie.Start Inv-loop μ-loop) → 4 + 3 * wordAt (now (s .args .file)) 2 ≤ length (now (s .args .file)) / 4
+contents s = file-head editionOne (now (s .args .file)) (accepted s) .room
+
+room : (c : tie.In-loop Inv-loop μ-loop) → 4 * (4 + 3 * c .before .loop .k) + 12 ≤ length (now (c .before .before .before .before .args .file))
+room c = omega (arith, contents (c .before .before .before .before))
+
+word-requires : tie.Need-word-requires Inv-loop μ-loop
+word-requires c κs = let h = contents (c .before) in omega arith
+
+loop-holds : tie.Need-loop-holds Inv-loop μ-loop
+loop-holds c = (omega arith, c .word .ensures, rw (sub-zero, c .word .ensures))
+
+mul-at : tie.Need-mul-at Inv-loop μ-loop
+mul-at c = omega (arith, room c)
+
+add-at : tie.Need-add-at Inv-loop μ-loop
+add-at c = omega (arith, room c)
+
+word-requires-2 : tie.Need-word-requires-2 Inv-loop μ-loop
+word-requires-2 c κs = omega (arith, room c)
+
+add-word : tie.Need-add-word Inv-loop μ-loop
+add-word c = omega (arith, room (c .before .before))
+
+word-requires-3 : tie.Need-word-requires-3 Inv-loop μ-loop
+word-requires-3 c κs = omega (arith, room (c .before .before))
+
+add-word-2 : tie.Need-add-word-2 Inv-loop μ-loop
+add-word-2 c = omega (arith, room (c .before .before .before))
+
+word-requires-4 : tie.Need-word-requires-4 Inv-loop μ-loop
+word-requires-4 c κs = omega (arith, room (c .before .before .before))
+
+part-result-end : tie.Need-part-result-end Inv-loop μ-loop
+part-result-end c =
+    let s = c .before .before .before .before .before .before .before .before in
+    let e = file-entry editionOne (now (s .args .file)) (accepted s) (c .before .before .before .before .before .loop .k) (omega (arith, c .before .before .before .before .loop-test .taken)) in
+    omega (arith, e .inside)
+
+returns : tie.Need-returns Inv-loop μ-loop
+returns c =
+    let l = c .before .before .before .before .before .before in
+    let a = 4 * c .before .before .word3 .result in
+    let n = 4 * c .before .word4 .result in
+    let p : a + n - a ≡ n = omega arith in
+    sym (l .loop .inv .2 ∙ here _ _ _ _ (omega arith) (sym (c .before .before .before .before .word2 .ensures) ∙ c .before .before .before .if1 .taken) ∙ (cc p))
+
+loop-again : tie.Need-loop-again Inv-loop μ-loop
+loop-again c =
+    let l = c .before .before .before in (
+      omega arith,
+      l .loop .inv .1,
+      l .loop .inv .2 ∙ next _ _ _ _ (omega arith) (λ q. c .if1 .left (c .before .word2 .ensures ∙ q)),
+    )
+
+returns-2 : tie.Need-returns-2 Inv-loop μ-loop
+returns-2 c = sym (c .before .before .loop .inv .2 ∙ none _ _ _ _ (omega arith))
+
+pub find-spec : {M : Type 1} → statement M
+find-spec =
+    tie.close
+    (tie.spec
+    Inv-loop
+    μ-loop
+    word-requires
+    (λ c. search needs)
+    loop-holds
+    mul-at
+    add-at
+    word-requires-2
+    add-word
+    word-requires-3
+    (λ c. search needs)
+    (λ c. search needs)
+    add-word-2
+    word-requires-4
+    (λ c. search needs)
+    (λ c. search needs)
+    (λ c. search needs)
+    (λ c. search needs)
+    (λ c. search needs)
+    part-result-end
+    returns
+    (λ c. search needs)
+    (λ c. search needs)
+    loop-again
+    (λ c. search needs)
+    returns-2)

@@ -1,0 +1,200 @@
+// The day file: the check of all its words, and the lookup of an area's body.
+use limits::Limits;
+use verdict::Verdict;
+ghost use mathlib.Core.Path.{_≡_};
+ghost use Prim.Native.Nat.{_+_, _*_, _≤_, _<_, _^_};
+ghost use lib.ListN.{length};
+ghost use Rattle.words.specs.Word.{wordAt};
+ghost use Rattle.verdict.specs.Verdict.{numberOf};
+ghost use Rattle.dayfile.specs.Check.{headRule, entryRule, contentsRule, bodiesRule, checkWithin, checkOf};
+ghost use Rattle.dayfile.specs.Lookup.{bodyFrom, lookupOf};
+
+// The four head words, in a file of `size` words.
+fn head(areas: u32, size: usize, edition: u32, day: u32, n: u32, peak: u32) -> Verdict
+    ensures { λ r. ⌜ r ≡ headRule areas size edition day n peak ⌝ }
+{
+    if edition != 1 {
+        return Verdict::BadEdition;
+    }
+    if !calendar::real_date(day) {
+        return Verdict::BadDate;
+    }
+    if n < 1 {
+        return Verdict::BadAreaCount;
+    }
+    if areas < n {
+        return Verdict::BadAreaCount;
+    }
+    if size < 4 + 3 * (n as usize) {
+        return Verdict::BadAreaCount;
+    }
+    if peak == 0 {
+        return Verdict::Accepted;
+    }
+    if peak == 4194240 {
+        return Verdict::Accepted;
+    }
+    Verdict::BadPeakHours
+}
+
+// Entry k of n, at word `at`.
+fn entry(
+    most: usize,
+    size: usize,
+    n: usize,
+    k: usize,
+    at: usize,
+    before: u32,
+    due: usize,
+    number: u32,
+    start: usize,
+    length: usize,
+) -> Verdict
+    requires { ⌜ (k < n) × ((at < 2 ^ 62) × ((start < 4294967296) × (length < 4294967296))) ⌝ }
+    ensures { λ r. ⌜ r ≡ entryRule most size n k at before due number start length ⌝ }
+{
+    if number <= before {
+        return Verdict::BadContents { word: at };
+    }
+    if 2147483647 < number {
+        return Verdict::BadContents { word: at };
+    }
+    if start != due {
+        return Verdict::BadContents { word: at + 1 };
+    }
+    if length < 800 {
+        return Verdict::BadContents { word: at + 2 };
+    }
+    if most < length {
+        return Verdict::BadContents { word: at + 2 };
+    }
+    if k + 1 == n {
+        if start + length == size {
+            return Verdict::Accepted;
+        }
+        return Verdict::BadContents { word: at + 2 };
+    }
+    if size < start + length {
+        return Verdict::BadContents { word: at + 2 };
+    }
+    Verdict::Accepted
+}
+
+// The contents: n entries of bodies of at most `most` words.
+fn contents(most: usize, file: &[u8], n: usize) -> Verdict
+    requires { ⌜ 16 + 12 * n ≤ length (now file) ⌝ }
+    ensures { λ r. ⌜ r ≡ contentsRule most (now (file .entry)) n ⌝ }
+{
+    let size = file.len() / 4;
+    let mut before: u32 = 0;
+    let mut due = 4 + 3 * n;
+    let mut k: usize = 0;
+    while k < n {
+        let at = 4 + 3 * k;
+        let number = words::word(file, at);
+        let start = words::word(file, at + 1) as usize;
+        let length = words::word(file, at + 2) as usize;
+        let v = entry(most, size, n, k, at, before, due, number, start, length);
+        if verdict::number(v) != 0 {
+            return v;
+        }
+        before = number;
+        due = start + length;
+        k += 1;
+    }
+    Verdict::Accepted
+}
+
+// The bodies of n entries whose contents are accepted, each handed on as its part of the file.
+fn bodies(limits: Limits, file: &[u8], n: usize) -> Verdict
+    requires { ⌜ (16 + 12 * n ≤ length (now file)) × (numberOf (contentsRule (limits .words) (now file) n) ≡ 0) ⌝ }
+    ensures { λ r. ⌜ r ≡ bodiesRule limits (now (file .entry)) n ⌝ }
+{
+    let mut ciso: u32 = 0;
+    let mut k: usize = 0;
+    while k < n {
+        let at = 4 + 3 * k;
+        let start = words::word(file, at + 1) as usize;
+        let length = words::word(file, at + 2) as usize;
+        let from = 4 * start;
+        let to = from + 4 * length;
+        let body = &file[from..to];
+        let v = body::check(limits, ciso, start, body);
+        if verdict::number(v) != 0 {
+            return v;
+        }
+        ciso += words::word(body, 0);
+        k += 1;
+    }
+    Verdict::Accepted
+}
+
+// The check within given limits.
+pub fn check_within(limits: Limits, file: &[u8]) -> Verdict
+    ensures { λ r. ⌜ r ≡ checkWithin limits (now (file .entry)) ⌝ }
+{
+    let most = limits.bytes;
+    if file.len() < 16 {
+        return Verdict::BadLength;
+    }
+    if most < file.len() {
+        return Verdict::BadLength;
+    }
+    if file.len() % 4 != 0 {
+        return Verdict::BadLength;
+    }
+    let n = words::word(file, 2);
+    let first = head(
+        limits.areas,
+        file.len() / 4,
+        words::word(file, 0),
+        words::word(file, 1),
+        n,
+        words::word(file, 3),
+    );
+    if verdict::number(first) != 0 {
+        return first;
+    }
+    let second = contents(limits.words as usize, file, n as usize);
+    if verdict::number(second) != 0 {
+        return second;
+    }
+    bodies(limits, file, n as usize)
+}
+
+// The first word of a day file that breaks its rule.
+pub fn check(file: &[u8]) -> Verdict
+    ensures { λ r. ⌜ r ≡ checkOf (now (file .entry)) ⌝ }
+{
+    check_within(limits::edition_one(), file)
+}
+
+// The body of an area in an accepted file.
+fn find(file: &[u8], area: u32) -> &[u8]
+    requires { ⌜ numberOf (checkOf (now file)) ≡ 0 ⌝ }
+    ensures { λ r. ⌜ now r ≡ bodyFrom (now (file .entry)) area 0 (wordAt (now (file .entry)) 2) ⌝ }
+{
+    let n = words::word(file, 2) as usize;
+    let mut k: usize = 0;
+    while k < n {
+        let at = 4 + 3 * k;
+        if words::word(file, at) == area {
+            let from = 4 * (words::word(file, at + 1) as usize);
+            let to = from + 4 * (words::word(file, at + 2) as usize);
+            return &file[from..to];
+        }
+        k += 1;
+    }
+    &file[..0]
+}
+
+// The bytes of an area's body, a part of the file; an empty part where the number is absent or the check refuses the file.
+pub fn body_of(file: &[u8], area: u32) -> &[u8]
+    ensures { λ r. ⌜ now r ≡ lookupOf (now (file .entry)) area ⌝ }
+{
+    let v = check(file);
+    if verdict::number(v) != 0 {
+        return &file[..0];
+    }
+    find(file, area)
+}

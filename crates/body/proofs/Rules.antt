@@ -1,14 +1,16 @@
 -- What is known of a number whose rule was kept.
 use Prim.Native.Nat.{ℕ, _+_, _≤_, _<_}
-use mathlib.Core.Bool.{_&&_}
+use mathlib.Core.Bool.{false, _&&_, _||_}
 use mathlib.Core.Path.{_≡_}
 use native.Mathlib.Omega.{arith}
-use lib.Dec.{leb, eqb}
-use borrow.Author.Tests.{leb-true, eqb-true}
+use lib.Dec.{leb, ltb, eqb}
+use lib.IntN.{natAbs}
+use borrow.Author.Tests.{leb-true, ltb-true, eqb-true}
+use Rattle.words.specs.Word.{signedOf}
 use Rattle.verdict.specs.Verdict.{numberOf}
 use Rattle.verdict.proofs.First.{kept, both}
-use Rattle.body.specs.Layout.{bodyWords}
-use Rattle.body.specs.Check.{headRule, countRule, demandRule}
+use Rattle.body.specs.Layout.{bodyWords, missing}
+use Rattle.body.specs.Check.{headRule, countRule, coordinatorRule, rangeRule, pairRule, demandRule}
 
 pub record Head (points ciso kind flag days hubA hubB load : ℕ) : Type 0 where
   pub kind-known : kind ≤ 1
@@ -52,8 +54,25 @@ count-kept start size most load count z =
     let b = both (leb 1 count) _ (p .0) in
     (leb-true _ _ (b .0), leb-true _ _ (b .1), eqb-true _ _ (r .0))
 
-pub demand-sum : (place before demand : ℕ) → numberOf (demandRule place before demand) ≡ 0 → before + demand ≤ 100000000
-demand-sum place before demand z =
+pub coordinator-kept : (place before number : ℕ) → numberOf (coordinatorRule place before number) ≡ 0 → (before < number) × (number ≤ 2147483647)
+coordinator-kept place before number z =
+    let p = kept (ltb before number && leb number 2147483647) _ _ (λ q. omega arith) z in
+    let b = both (ltb before number) _ (p .0) in
+    (ltb-true _ _ (b .0), leb-true _ _ (b .1))
+
+pub range-kept : (place most number : ℕ) → numberOf (rangeRule place most number) ≡ 0 → number ≤ most
+range-kept place most number z = leb-true _ _ (kept (leb number most) _ _ (λ q. omega arith) z .0)
+
+pub pair-kept : (place next quantity price : ℕ) → numberOf (pairRule place next quantity price) ≡ 0
+    → (quantity ≤ 10000000) × (missing price ≡ false → natAbs (signedOf price) ≤ 20000000)
+pair-kept place next quantity price z =
+    let p = kept (leb quantity 10000000) _ _ (λ q. omega arith) z in
+    let r = kept (missing price || leb (natAbs (signedOf price)) 20000000) _ _ (λ q. omega arith) (p .1) in
+    (leb-true _ _ (p .0), λ there. leb-true _ _ (simp there at (r .0)))
+
+pub demand-kept : (place before demand : ℕ) → numberOf (demandRule place before demand) ≡ 0
+    → (demand ≤ 100000000) × (before + demand ≤ 100000000)
+demand-kept place before demand z =
     let p = kept (leb demand 100000000) _ _ (λ q. omega arith) z in
     let r = kept (leb (before + demand) 100000000) _ _ (λ q. omega arith) (p .1) in
-    leb-true _ _ (r .0)
+    (leb-true _ _ (p .0), leb-true _ _ (r .0))

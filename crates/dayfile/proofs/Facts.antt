@@ -14,7 +14,10 @@ use Rattle.calendar.specs.Date.{realDate}
 use Rattle.verdict.specs.Verdict.{numberOf}
 use Rattle.verdict.specs.First.{_orElse_}
 use Rattle.verdict.proofs.First.{kept, both, or-first, or-second, scan-each}
+use Rattle.exact.proofs.Lending.{part-length}
 use Rattle.body.specs.Check.{bodyRule}
+use Rattle.body.specs.Sound.{Sound}
+use Rattle.body.proofs.Facts.{sound}
 use Rattle.dayfile.specs.File.{numberAt, startAt, sizeAt, numberBefore, dueAt, bodyAt, cisoBefore}
 use Rattle.dayfile.specs.Check.{headRule, contentsRule, bodiesRule, bodyOf, checkWithin}
 use Rattle.dayfile.proofs.Entries.{Entry, entry}
@@ -76,6 +79,13 @@ module _ (limits : Limits) (file : List ℕ) (accepted : numberOf (checkWithin l
     pub file-entry : Entry (limits .words) (length file / 4) (wordAt file 2) k (numberBefore file k) (dueAt file (wordAt file 2) k) (numberAt file k) (startAt file k) (sizeAt file k)
     file-entry = entry _ _ _ _ (or-first _ _ (or-second _ _ (opened .1))) below
 
-    pub file-body : numberOf (bodyRule (startAt file k) (bodyAt file k) limits (cisoBefore file k)) ≡ 0
+    file-body : numberOf (bodyRule (startAt file k) (bodyAt file k) limits (cisoBefore file k)) ≡ 0
     unfolding bodiesRule bodyOf
     file-body = scan-each (bodyOf limits file) (wordAt file 2) (or-second _ _ (or-second _ _ (opened .1))) k below
+
+    pub file-sound : Sound (limits .points) (bodyAt file k)
+    file-sound = sound (startAt file k) (bodyAt file k) limits (cisoBefore file k) file-body
+
+    -- a body has the bytes that its entry says
+    pub body-length : length (bodyAt file k) ≡ 4 * sizeAt file k
+    body-length = part-length file (4 * startAt file k) (4 * sizeAt file k) (omega (arith, file-entry .inside))

@@ -10,7 +10,7 @@ use Rattle.verdict.proofs.First.{loop-next, loop-stop, loop-done}
 use Rattle.verdict.specs.Verdict.{numberOf}
 use Rattle.body.specs.Layout.{runningDemand}
 use Rattle.body.specs.Check.{demandOf, demandsRule}
-use Rattle.body.proofs.Rules.{demand-sum}
+use Rattle.body.proofs.Rules.{demand-kept}
 use Rattle.body.proofs.demands.Statement.{statement}
 use Rattle.body.proofs.demands.Tie as tie
 
@@ -26,7 +26,7 @@ unfolding demandOf
 turn c = cc
 
 small : (c : tie.Else1 Inv-loop μ-loop) → c .before .before .before .before .before .loop .running + c .before .before .before .word .result ≤ 100000000
-small c = demand-sum _ _ _ (ap numberOf (sym (c .before .before .demand .ensures)) ∙ sym (c .before .number .ensures) ∙ c .if1 .left)
+small c = demand-kept _ _ _ (ap numberOf (sym (c .before .before .demand .ensures)) ∙ sym (c .before .number .ensures) ∙ c .if1 .left) .1
 
 loop-holds : tie.Need-loop-holds Inv-loop μ-loop
 unfolding runningDemand demandsRule

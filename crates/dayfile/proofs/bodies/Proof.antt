@@ -11,8 +11,7 @@ use Rattle.verdict.proofs.First.{loop-next, loop-stop, loop-done}
 use lib.ListN.{take, drop}
 use Rattle.exact.proofs.Lending.{part-length}
 use Rattle.verdict.specs.Verdict.{numberOf}
-use Rattle.body.proofs.Rules.{Head}
-use Rattle.body.proofs.Facts.{head}
+use Rattle.body.proofs.Facts.{one-ciso}
 use Rattle.dayfile.specs.File.{startAt, sizeAt, bodyAt, cisoBefore}
 use Rattle.dayfile.specs.Check.{bodyOf, bodiesRule}
 use Rattle.dayfile.proofs.Entries.{Entry, entry}
@@ -51,8 +50,8 @@ part c =
 -- no second CISO area
 one : (c : tie.After-word3 Inv-loop μ-loop) → c .before .before .before .before .before .before .before .before .loop .ciso + c .word3 .result ≤ 1
 one c =
-    let h = head _ _ _ _ (ap numberOf (sym (c .before .before .before .check .ensures)) ∙ sym (c .before .before .number .ensures) ∙ c .before .if1 .left) in
-    omega (arith, h .one-ciso, c .word3 .ensures)
+    let h = one-ciso _ _ _ _ (ap numberOf (sym (c .before .before .before .check .ensures)) ∙ sym (c .before .before .number .ensures) ∙ c .before .if1 .left) in
+    omega (arith, h, c .word3 .ensures)
 
 loop-holds : tie.Need-loop-holds Inv-loop μ-loop
 unfolding cisoBefore bodiesRule

@@ -11,54 +11,54 @@ use Rattle.limits.specs.declared.Limits.{Limits}
 use Rattle.verdict.specs.Verdict.{numberOf}
 use Rattle.verdict.proofs.First.{or-first, or-second, scan-each}
 use Rattle.body.specs.Layout.{bodyWords, hourWords, missing, runningDemand, demandsAt, hourAt, quantityAt, priceAt, kindOf, pointsOf, coordinatorsOf}
-use Rattle.body.specs.Check.{mostCoordinators, headOf, coordinatorOf, coordinatorsRule, deficiencyOf, deficienciesRule, intervalOf, intervalsRule, demandOf, demandsRule, hourRule, hourOf, hoursRule, bodyRule}
+use Rattle.body.specs.Check.{mostCoordinators, headOf, frontRule, coordinatorOf, coordinatorsRule, deficiencyOf, deficienciesRule, intervalOf, intervalsRule, demandOf, demandsRule, numbersRule, hourRule, hourOf, hoursRule, bodyRule}
 use Rattle.body.specs.Sound.{Sound}
 use Rattle.body.proofs.HourPlaces.{hour-room}
 use Rattle.body.proofs.Rules.{Head, head-kept, count-kept, coordinator-kept, range-kept, pair-kept, demand-kept}
 
 module _ (start : ℕ) (body : List ℕ) (limits : Limits) (ciso : ℕ) (accepted : numberOf (bodyRule start body limits ciso) ≡ 0) where
   head : Head (limits .points) ciso (wordAt body 0) (wordAt body 1) (wordAt body 2) (natAbs (signedOf (wordAt body 3))) (natAbs (signedOf (wordAt body 4))) (wordAt body 5)
-  unfolding bodyRule headOf
-  head = head-kept _ _ _ _ _ _ _ _ _ (or-first _ _ accepted)
+  unfolding bodyRule frontRule headOf
+  head = head-kept _ _ _ _ _ _ _ _ _ (or-first _ _ (or-first _ _ accepted))
 
   pub one-ciso : ciso + kindOf body ≤ 1
   one-ciso = head .one-ciso
 
   counted : (1 ≤ coordinatorsOf body) × (coordinatorsOf body ≤ mostCoordinators (kindOf body)) × (length body / 4 ≡ bodyWords (pointsOf body) (coordinatorsOf body))
-  unfolding bodyRule
-  counted = count-kept _ _ _ _ _ (or-first _ _ (or-second _ _ accepted))
+  unfolding bodyRule frontRule
+  counted = count-kept _ _ _ _ _ (or-second _ _ (or-first _ _ accepted))
 
   numbers : (i : ℕ) → i < coordinatorsOf body → numberOf (coordinatorOf start body i) ≡ 0
   unfolding bodyRule coordinatorsRule
-  numbers i p = scan-each (coordinatorOf start body) _ (or-first _ _ (or-second _ _ (or-second _ _ accepted))) i p
+  numbers i p = scan-each (coordinatorOf start body) _ (or-first _ _ (or-second _ _ accepted)) i p
 
   module _ (h : ℕ) (below : h < 24) where
     hour : numberOf (hourRule start body (pointsOf body) (coordinatorsOf body) (hourAt body h)) ≡ 0
     unfolding bodyRule hoursRule hourOf
-    hour = scan-each (hourOf start body (pointsOf body) (coordinatorsOf body)) 24 (or-second _ _ (or-second _ _ (or-second _ _ accepted))) h below
+    hour = scan-each (hourOf start body (pointsOf body) (coordinatorsOf body)) 24 (or-second _ _ (or-second _ _ accepted)) h below
 
     deficiencies : (i : ℕ) → i < 6 → numberOf (deficiencyOf start body (hourAt body h) i) ≡ 0
-    unfolding hourRule deficienciesRule
-    deficiencies i p = scan-each (deficiencyOf start body (hourAt body h)) 6 (or-first _ _ hour) i p
+    unfolding hourRule numbersRule deficienciesRule
+    deficiencies i p = scan-each (deficiencyOf start body (hourAt body h)) 6 (or-first _ _ (or-first _ _ hour)) i p
 
     requirement : wordAt body (hourAt body h + 6) ≤ 50000000
-    unfolding hourRule
-    requirement = range-kept _ _ _ (or-first _ _ (or-second _ _ hour))
+    unfolding hourRule numbersRule
+    requirement = range-kept _ _ _ (or-first _ _ (or-second _ _ (or-first _ _ hour)))
 
     mec : natAbs (signedOf (wordAt body (hourAt body h + 7))) ≤ 20000000
-    unfolding hourRule
-    mec = range-kept _ _ _ (or-first _ _ (or-second _ _ (or-second _ _ hour)))
+    unfolding hourRule numbersRule
+    mec = range-kept _ _ _ (or-second _ _ (or-second _ _ (or-first _ _ hour)))
 
     interval : (i : ℕ) → i < 12 * pointsOf body → (quantityAt body h i ≤ 10000000) × (missing (priceAt body h i) ≡ false → natAbs (signedOf (priceAt body h i)) ≤ 20000000)
     unfolding hourRule intervalsRule intervalOf
     interval i p =
         let at = hourAt body h + 8 + 2 * i in
         pair-kept (start + at) (start + (at + 1)) (quantityAt body h i) (priceAt body h i)
-        (scan-each (intervalOf start body (hourAt body h + 8)) _ (or-first _ _ (or-second _ _ (or-second _ _ (or-second _ _ hour)))) i p)
+        (scan-each (intervalOf start body (hourAt body h + 8)) _ (or-first _ _ (or-second _ _ hour)) i p)
 
     demands : (i : ℕ) → i < coordinatorsOf body → numberOf (demandOf start body (hourAt body h + 8 + 24 * pointsOf body) i) ≡ 0
     unfolding hourRule demandsRule
-    demands i p = scan-each (demandOf start body (hourAt body h + 8 + 24 * pointsOf body)) _ (or-second _ _ (or-second _ _ (or-second _ _ (or-second _ _ hour)))) i p
+    demands i p = scan-each (demandOf start body (hourAt body h + 8 + 24 * pointsOf body)) _ (or-second _ _ (or-second _ _ hour)) i p
 
   pub sound : Sound (limits .points) body
   unfolding coordinatorOf deficiencyOf demandOf

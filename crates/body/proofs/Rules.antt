@@ -1,16 +1,18 @@
 -- What is known of a number whose rule was kept.
-use Prim.Native.Nat.{ℕ, _+_, _≤_, _<_}
+use Prim.Native.Nat.{ℕ, _+_, _/_, _≤_, _<_}
 use mathlib.Core.Bool.{false, _&&_, _||_}
+use mathlib.Core.List.{List}
 use mathlib.Core.Path.{_≡_}
 use native.Mathlib.Omega.{arith}
 use lib.Dec.{leb, ltb, eqb}
 use lib.IntN.{natAbs}
+use lib.ListN.{length}
 use borrow.Author.Tests.{leb-true, ltb-true, eqb-true}
-use Rattle.words.specs.Word.{signedOf}
+use Rattle.words.specs.Word.{wordAt, signedOf}
 use Rattle.verdict.specs.Verdict.{numberOf}
-use Rattle.verdict.proofs.First.{kept, both}
+use Rattle.verdict.proofs.First.{kept, both, or-second}
 use Rattle.body.specs.Layout.{bodyWords, missing}
-use Rattle.body.specs.Check.{headRule, countRule, coordinatorRule, rangeRule, pairRule, demandRule}
+use Rattle.body.specs.Check.{headRule, countRule, frontRule, coordinatorRule, rangeRule, pairRule, demandRule}
 
 pub record Head (points ciso kind flag days hubA hubB load : ℕ) : Type 0 where
   pub kind-known : kind ≤ 1
@@ -53,6 +55,12 @@ count-kept start size most load count z =
     let r = kept (eqb size (bodyWords load count)) _ _ (λ q. omega arith) (p .1) in
     let b = both (leb 1 count) _ (p .0) in
     (leb-true _ _ (b .0), leb-true _ _ (b .1), eqb-true _ _ (r .0))
+
+-- the head of a body is accepted: its size is the one that L and K give
+pub front-size : (start : ℕ) (body : List ℕ) (points ciso : ℕ) → numberOf (frontRule start body points ciso) ≡ 0
+    → length body / 4 ≡ bodyWords (wordAt body 5) (wordAt body 6)
+unfolding frontRule
+front-size start body points ciso z = count-kept _ _ _ _ _ (or-second _ _ z) .2
 
 pub coordinator-kept : (place before number : ℕ) → numberOf (coordinatorRule place before number) ≡ 0 → (before < number) × (number ≤ 2147483647)
 coordinator-kept place before number z =

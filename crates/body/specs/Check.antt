@@ -88,12 +88,17 @@ module _ (start : ℕ) (body : List ℕ) where
   unfoldable pub demandsRule : ℕ → ℕ → Verdict
   demandsRule from count = scan (demandOf from) 0 count
 
-  -- the hour that starts at word `at`: six deficiencies, requirement, MEC, 12 pairs for each load point, a demand for each coordinator
-  unfoldable pub hourRule : ℕ → ℕ → ℕ → Verdict
-  hourRule load count at =
+  -- the first eight numbers of the hour that starts at word `at`: six deficiencies, requirement, MEC
+  unfoldable pub numbersRule : ℕ → Verdict
+  numbersRule at =
       deficienciesRule at
       orElse rangeRule (start + (at + 6)) 50000000 (wordAt body (at + 6))
       orElse rangeRule (start + (at + 7)) 20000000 (natAbs (signedOf (wordAt body (at + 7))))
+
+  -- that hour: its eight numbers, 12 pairs for each load point, a demand for each coordinator
+  unfoldable pub hourRule : ℕ → ℕ → ℕ → Verdict
+  hourRule load count at =
+      numbersRule at
       orElse intervalsRule (at + 8) (12 * load)
       orElse demandsRule (at + 8 + 24 * load) count
 
@@ -106,10 +111,15 @@ module _ (start : ℕ) (body : List ℕ) where
   unfoldable pub headOf : ℕ → ℕ → Verdict
   headOf points ciso = headRule points ciso start (wordAt body 0) (wordAt body 1) (wordAt body 2) (natAbs (signedOf (wordAt body 3))) (natAbs (signedOf (wordAt body 4))) (wordAt body 5)
 
+  -- the seven words of the head
+  unfoldable pub frontRule : ℕ → ℕ → Verdict
+  frontRule points ciso =
+      headOf points ciso
+      orElse countRule start (length body / 4) (mostCoordinators (wordAt body 0)) (wordAt body 5) (wordAt body 6)
+
   -- the whole body
   unfoldable pub bodyRule : Limits → ℕ → Verdict
   bodyRule limits ciso =
-      headOf (limits .points) ciso
-      orElse countRule start (length body / 4) (mostCoordinators (wordAt body 0)) (wordAt body 5) (wordAt body 6)
+      frontRule (limits .points) ciso
       orElse coordinatorsRule (wordAt body 6)
       orElse hoursRule (wordAt body 5) (wordAt body 6)

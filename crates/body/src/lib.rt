@@ -5,7 +5,7 @@ ghost use mathlib.Core.Path.{_≡_};
 ghost use Prim.Native.Nat.{_+_, _*_, _/_, _≤_, _<_};
 ghost use lib.ListN.{length};
 ghost use Rattle.body.specs.Layout.{bodyWords, hourWords};
-ghost use Rattle.body.specs.Check.{headRule, mostCoordinators, countRule, coordinatorRule, coordinatorsRule, rangeRule, pairRule, demandRule, deficienciesRule, intervalsRule, demandsRule, hourRule, hoursRule, headOf, bodyRule};
+ghost use Rattle.body.specs.Check.{headRule, mostCoordinators, countRule, coordinatorRule, coordinatorsRule, rangeRule, pairRule, demandRule, deficienciesRule, intervalsRule, demandsRule, numbersRule, hourRule, hoursRule, headOf, frontRule, bodyRule};
 
 // The first six words of the head, the hub prices A and B by their magnitude.
 fn head_words(
@@ -194,10 +194,10 @@ fn demands(start: usize, body: &[u8], from: usize, count: usize) -> Verdict
     Verdict::Accepted
 }
 
-// The hour that starts at word `at`.
-fn hour(start: usize, body: &[u8], load: usize, count: usize, at: usize) -> Verdict
-    requires { ⌜ (start < 4294967296) × (4 * (at + hourWords load count) ≤ length (now body)) ⌝ }
-    ensures { λ r. ⌜ r ≡ hourRule start (now (body .entry)) load count at ⌝ }
+// The first eight numbers of the hour that starts at word `at`.
+fn numbers(start: usize, body: &[u8], at: usize) -> Verdict
+    requires { ⌜ (start < 4294967296) × (4 * (at + 8) ≤ length (now body)) ⌝ }
+    ensures { λ r. ⌜ r ≡ numbersRule start (now (body .entry)) at ⌝ }
 {
     let first = deficiencies(start, body, at);
     if verdict::number(first) != 0 {
@@ -208,13 +208,21 @@ fn hour(start: usize, body: &[u8], load: usize, count: usize, at: usize) -> Verd
         return second;
     }
     let mec = words::magnitude(words::word(body, at + 7));
-    let third = range(start + (at + 7), 20000000, mec);
-    if verdict::number(third) != 0 {
-        return third;
+    range(start + (at + 7), 20000000, mec)
+}
+
+// The hour that starts at word `at`.
+fn hour(start: usize, body: &[u8], load: usize, count: usize, at: usize) -> Verdict
+    requires { ⌜ (start < 4294967296) × (4 * (at + hourWords load count) ≤ length (now body)) ⌝ }
+    ensures { λ r. ⌜ r ≡ hourRule start (now (body .entry)) load count at ⌝ }
+{
+    let first = numbers(start, body, at);
+    if verdict::number(first) != 0 {
+        return first;
     }
-    let fourth = intervals(start, body, at + 8, 12 * load);
-    if verdict::number(fourth) != 0 {
-        return fourth;
+    let second = intervals(start, body, at + 8, 12 * load);
+    if verdict::number(second) != 0 {
+        return second;
     }
     demands(start, body, at + 8 + 24 * load, count)
 }
@@ -249,25 +257,35 @@ fn head(points: u32, ciso: u32, start: usize, body: &[u8]) -> Verdict
     head_words(points, ciso, start, kind, flag, days, a, b, load)
 }
 
-// The first word of a body that breaks its rule. `ciso` CISO areas stand before this one in the file.
-pub fn check(limits: Limits, ciso: u32, start: usize, body: &[u8]) -> Verdict
+// The seven words of the head.
+fn front(points: u32, ciso: u32, start: usize, body: &[u8]) -> Verdict
     requires { ⌜ (ciso ≤ 1) × ((start < 4294967296) × (28 ≤ length (now body))) ⌝ }
-    ensures { λ r. ⌜ r ≡ bodyRule start (now (body .entry)) limits ciso ⌝ }
+    ensures { λ r. ⌜ r ≡ frontRule start (now (body .entry)) points ciso ⌝ }
 {
-    let first = head(limits.points, ciso, start, body);
+    let first = head(points, ciso, start, body);
     if verdict::number(first) != 0 {
         return first;
     }
     let most = most_coordinators(words::word(body, 0)) as usize;
     let load = words::word(body, 5) as usize;
     let k = words::word(body, 6) as usize;
-    let second = count(start, body.len() / 4, most, load, k);
+    count(start, body.len() / 4, most, load, k)
+}
+
+// The first word of a body that breaks its rule. `ciso` CISO areas stand before this one in the file.
+pub fn check(limits: Limits, ciso: u32, start: usize, body: &[u8]) -> Verdict
+    requires { ⌜ (ciso ≤ 1) × ((start < 4294967296) × (28 ≤ length (now body))) ⌝ }
+    ensures { λ r. ⌜ r ≡ bodyRule start (now (body .entry)) limits ciso ⌝ }
+{
+    let first = front(limits.points, ciso, start, body);
+    if verdict::number(first) != 0 {
+        return first;
+    }
+    let load = words::word(body, 5) as usize;
+    let k = words::word(body, 6) as usize;
+    let second = coordinators(start, body, k);
     if verdict::number(second) != 0 {
         return second;
-    }
-    let third = coordinators(start, body, k);
-    if verdict::number(third) != 0 {
-        return third;
     }
     hours(start, body, load, k)
 }

@@ -19,7 +19,7 @@ use Rattle.body.specs.Check.{bodyRule}
 use Rattle.body.specs.Sound.{Sound}
 use Rattle.body.proofs.Facts.{sound}
 use Rattle.dayfile.specs.File.{numberAt, startAt, sizeAt, numberBefore, dueAt, bodyAt, cisoBefore}
-use Rattle.dayfile.specs.Check.{headRule, contentsRule, bodiesRule, bodyOf, checkWithin}
+use Rattle.dayfile.specs.Check.{headRule, headOf, contentsRule, bodiesRule, bodyOf, checkWithin}
 use Rattle.dayfile.proofs.Entries.{Entry, entry}
 
 either : (a b : Bool) → (a || b) ≡ true → (a ≡ true) ⊎ (b ≡ true)
@@ -37,9 +37,9 @@ pub record Head (areas size edition day n peak : ℕ) : Type 0 where
   pub room : 4 + 3 * n ≤ size
   pub peak-known : (peak ≡ 0) ⊎ (peak ≡ 4194240)
 
-pub head-kept : (areas size edition day n peak : ℕ) → numberOf (headRule areas size edition day n peak) ≡ 0 → Head areas size edition day n peak
+rule-kept : (areas size edition day n peak : ℕ) → numberOf (headRule areas size edition day n peak) ≡ 0 → Head areas size edition day n peak
 unfolding headRule
-head-kept areas size edition day n peak z =
+rule-kept areas size edition day n peak z =
     let a = kept (eqb edition 1) _ _ (λ q. omega arith) z in
     let b = kept (realDate day) _ _ (λ q. omega arith) (a .1) in
     let d = kept (leb 1 n && leb n areas && leb (4 + 3 * n) size) _ _ (λ q. omega arith) (b .1) in
@@ -54,13 +54,18 @@ head-kept areas size edition day n peak z =
       peak-known = known peak 0 4194240 (e .0);
     }
 
+pub head-kept : (areas : ℕ) (file : List ℕ) → numberOf (headOf areas file) ≡ 0
+    → Head areas (length file / 4) (wordAt file 0) (wordAt file 1) (wordAt file 2) (wordAt file 3)
+unfolding headOf
+head-kept areas file z = rule-kept _ _ _ _ _ _ z
+
 pub record Length (most bytes : ℕ) : Type 0 where
   pub least : 16 ≤ bytes
   pub most-bytes : bytes ≤ most
   pub whole : bytes % 4 ≡ 0
 
 module _ (limits : Limits) (file : List ℕ) (accepted : numberOf (checkWithin limits file) ≡ 0) where
-  opened : Length (limits .bytes) (length file) × (numberOf (headRule (limits .areas) (length file / 4) (wordAt file 0) (wordAt file 1) (wordAt file 2) (wordAt file 3) orElse contentsRule (limits .words) file (wordAt file 2) orElse bodiesRule limits file (wordAt file 2)) ≡ 0)
+  opened : Length (limits .bytes) (length file) × (numberOf (headOf (limits .areas) file orElse contentsRule (limits .words) file (wordAt file 2) orElse bodiesRule limits file (wordAt file 2)) ≡ 0)
   unfolding checkWithin
   opened =
       let n = length file in
@@ -73,7 +78,7 @@ module _ (limits : Limits) (file : List ℕ) (accepted : numberOf (checkWithin l
   file-length = opened .0
 
   pub file-head : Head (limits .areas) (length file / 4) (wordAt file 0) (wordAt file 1) (wordAt file 2) (wordAt file 3)
-  file-head = head-kept _ _ _ _ _ _ (or-first _ _ (opened .1))
+  file-head = head-kept (limits .areas) file (or-first _ _ (opened .1))
 
   module _ (k : ℕ) (below : k < wordAt file 2) where
     pub file-entry : Entry (limits .words) (length file / 4) (wordAt file 2) k (numberBefore file k) (dueAt file (wordAt file 2) k) (numberAt file k) (startAt file k) (sizeAt file k)

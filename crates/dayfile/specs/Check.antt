@@ -23,6 +23,10 @@ headRule areas size edition day n peak =
     rule eqb peak 0 || eqb peak 4194240 else BadPeakHours then
     Accepted
 
+-- the head words of a file that has at most `areas` areas
+unfoldable pub headOf : ℕ → List ℕ → Verdict
+headOf areas file = headRule areas (length file / 4) (wordAt file 0) (wordAt file 1) (wordAt file 2) (wordAt file 3)
+
 -- entry k of n, at word `at`, in a file of `size` words. The numbers rise strictly, a body starts where it is due, has 800 words or more
 -- and at most `most`, and ends within the file, the last one with the file.
 abbrev pub entryRule : (most size n k at before due number start length : ℕ) → Verdict
@@ -52,7 +56,7 @@ module _ (limits : Limits) (file : List ℕ) where
   unfoldable pub checkWithin : Verdict
   checkWithin =
       rule leb 16 (length file) && leb (length file) (limits .bytes) && eqb (length file % 4) 0 else BadLength then
-      headRule (limits .areas) (length file / 4) (wordAt file 0) (wordAt file 1) (wordAt file 2) (wordAt file 3)
+      headOf (limits .areas) file
       orElse contentsRule (limits .words) file (wordAt file 2)
       orElse bodiesRule (wordAt file 2)
 

@@ -6,11 +6,11 @@ ghost use Prim.Native.Nat.{_+_, _*_, _≤_, _<_, _^_};
 ghost use lib.ListN.{length};
 ghost use Rattle.words.specs.Word.{wordAt};
 ghost use Rattle.verdict.specs.Verdict.{numberOf};
-ghost use Rattle.dayfile.specs.Check.{headRule, entryRule, contentsRule, bodiesRule, checkWithin, checkOf};
+ghost use Rattle.dayfile.specs.Check.{headRule, headOf, entryRule, contentsRule, bodiesRule, checkWithin, checkOf};
 ghost use Rattle.dayfile.specs.Lookup.{bodyFrom, lookupOf};
 
 // The four head words, in a file of `size` words.
-fn head(areas: u32, size: usize, edition: u32, day: u32, n: u32, peak: u32) -> Verdict
+fn head_words(areas: u32, size: usize, edition: u32, day: u32, n: u32, peak: u32) -> Verdict
     ensures { λ r. ⌜ r ≡ headRule areas size edition day n peak ⌝ }
 {
     if edition != 1 {
@@ -35,6 +35,18 @@ fn head(areas: u32, size: usize, edition: u32, day: u32, n: u32, peak: u32) -> V
         return Verdict::Accepted;
     }
     Verdict::BadPeakHours
+}
+
+// The head words of a file, at most `areas` areas.
+fn head(areas: u32, file: &[u8]) -> Verdict
+    requires { ⌜ 16 ≤ length (now file) ⌝ }
+    ensures { λ r. ⌜ r ≡ headOf areas (now (file .entry)) ⌝ }
+{
+    let edition = words::word(file, 0);
+    let day = words::word(file, 1);
+    let n = words::word(file, 2);
+    let peak = words::word(file, 3);
+    head_words(areas, file.len() / 4, edition, day, n, peak)
 }
 
 // Entry k of n, at word `at`.
@@ -107,13 +119,13 @@ fn contents(most: usize, file: &[u8], n: usize) -> Verdict
 
 // The bodies of n entries whose contents are accepted, each handed on as its part of the file.
 fn bodies(limits: Limits, file: &[u8], n: usize) -> Verdict
-    requires { ⌜ (16 + 12 * n ≤ length (now file)) × (numberOf (contentsRule (limits .words) (now file) n) ≡ 0) ⌝ }
+    requires { ⌜ (1 ≤ n) × ((16 + 12 * n ≤ length (now file)) × (numberOf (contentsRule (limits .words) (now file) n) ≡ 0)) ⌝ }
     ensures { λ r. ⌜ r ≡ bodiesRule limits (now (file .entry)) n ⌝ }
 {
     let mut ciso: u32 = 0;
-    let mut k: usize = 0;
-    while k < n {
-        let at = 4 + 3 * k;
+    let mut area: usize = 0;
+    while area < n {
+        let at = 4 + 3 * area;
         let start = words::word(file, at + 1) as usize;
         let length = words::word(file, at + 2) as usize;
         let from = 4 * start;
@@ -124,7 +136,7 @@ fn bodies(limits: Limits, file: &[u8], n: usize) -> Verdict
             return v;
         }
         ciso += words::word(body, 0);
-        k += 1;
+        area += 1;
     }
     Verdict::Accepted
 }
@@ -143,23 +155,16 @@ pub fn check_within(limits: Limits, file: &[u8]) -> Verdict
     if file.len() % 4 != 0 {
         return Verdict::BadLength;
     }
-    let n = words::word(file, 2);
-    let first = head(
-        limits.areas,
-        file.len() / 4,
-        words::word(file, 0),
-        words::word(file, 1),
-        n,
-        words::word(file, 3),
-    );
+    let first = head(limits.areas, file);
     if verdict::number(first) != 0 {
         return first;
     }
-    let second = contents(limits.words as usize, file, n as usize);
+    let n = words::word(file, 2) as usize;
+    let second = contents(limits.words as usize, file, n);
     if verdict::number(second) != 0 {
         return second;
     }
-    bodies(limits, file, n as usize)
+    bodies(limits, file, n)
 }
 
 // The first word of a day file that breaks its rule.

@@ -21,7 +21,7 @@ abbrev μ-loop : tie.MeasureT-loop
 μ-loop start body load count at₀ h₀ at h = 24 - h
 
 room : (c : tie.In-loop Inv-loop μ-loop) → let s = c .before .before .before .args in 4 * (c .before .loop .at + hourWords (s .load) (s .count)) ≤ length (now (s .body))
-room c = let s = c .before .before .before .args in omega (arith, hour-room (s .load) (s .count) (c .before .loop .h) (c .loop-test .taken))
+room c = let s = c .before .before .before .args in omega (arith, hour-room (s .load) (s .count) (c .before .loop .h) (omega arith))
 
 turn : (c : tie.After-hour Inv-loop μ-loop) → let s = c .before .before .before .before .args in c .hour .result ≡ hourOf (s .start) (now (s .body)) (s .load) (s .count) (c .before .before .loop .h)
 unfolding hourOf

@@ -19,20 +19,20 @@ use Rattle.dayfile.proofs.bodies.Statement.{statement}
 use Rattle.dayfile.proofs.bodies.Tie as tie
 
 abbrev Inv-loop : tie.InvT-loop
-Inv-loop limits file n ciso₀ k₀ ciso k =
-    (k ≤ n) × (ciso ≡ cisoBefore file k) × (ciso ≤ 1) × (bodiesRule limits file n ≡ scan (bodyOf limits file) k (n - k))
+Inv-loop limits file n ciso₀ area₀ ciso area =
+    (area ≤ n) × (ciso ≡ cisoBefore file area) × (ciso ≤ 1) × (bodiesRule limits file n ≡ scan (bodyOf limits file) area (n - area))
 
 abbrev μ-loop : tie.MeasureT-loop
-μ-loop limits file n ciso₀ k₀ ciso k = n - k
+μ-loop limits file n ciso₀ area₀ ciso area = n - area
 
--- the body that is handed on lies within the file, and is body k
+-- the body that is handed on lies within the file, and is the body of that entry
 room : (c : tie.After-word2 Inv-loop μ-loop) → let s = c .before .before .before .before .before .args in (800 ≤ c .word2 .result) × (4 * c .before .word .result + 4 * c .word2 .result ≤ length (now (s .file)))
 room c =
     let s = c .before .before .before .before .before in
-    let e = entry _ _ _ (c .before .before .before .loop .k) (s .pre .1) (c .before .before .loop-test .taken) in
+    let e = entry _ _ _ (c .before .before .before .loop .area) (s .pre .1 .1) (omega arith) in
     (omega (arith, e .least), omega (arith, e .inside))
 
-turn : (c : tie.After-check Inv-loop μ-loop) → let s = c .before .before .before .before .before .before .before .args in c .check .result ≡ bodyOf (s .limits) (now (s .file)) (c .before .before .before .before .before .loop .k)
+turn : (c : tie.After-check Inv-loop μ-loop) → let s = c .before .before .before .before .before .before .before .args in c .check .result ≡ bodyOf (s .limits) (now (s .file)) (c .before .before .before .before .before .loop .area)
 unfolding bodyOf
 turn c =
     let a = 4 * c .before .before .before .word .result in

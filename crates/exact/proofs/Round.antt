@@ -33,6 +33,17 @@ unfolding roundDiv
 abs-round (pos a) b = half-le a b
 abs-round (negsuc a) b = rw (abs-neg (pos (halfUp (suc a) b))) (half-le (suc a) b)
 
+half-within : (m a b : ℕ) → 0 < b → a ≤ m * b → halfUp a b ≤ m
+half-within m a b h k =
+    le-of-suc-le-suc
+    (div-lt-iff-lt-mul {y = suc m} (omega arith) .1 (omega (arith, suc-mul m (2 * b), mul-left-comm m 2 b)))
+
+-- where the number is at most m times the divisor, R is at most m
+pub round-within : (m : ℕ) (z : ℤ) (b : ℕ) → 0 < b → natAbs z ≤ m * b → natAbs (roundDiv z b) ≤ m
+unfolding roundDiv
+round-within m (pos a) b h k = half-within m a b h k
+round-within m (negsuc a) b h k = rw (abs-neg (pos (halfUp (suc a) b))) (half-within m (suc a) b h k)
+
 mag-neg : (r a : ℕ) → r ≤ suc a → mag (negℤ (pos r)) ≤ a
 mag-neg zero a h = zero-le
 mag-neg (suc r) a h = le-of-suc-le-suc h

@@ -1,5 +1,7 @@
 // What the programs write on standard output: numbers in decimal, single spaces, line ends.
 use libc::STDOUT_FILENO;
+ghost use mathlib.Core.Path.{_≡_};
+ghost use lib.IntN.{natAbs};
 
 pub fn text(bytes: &[u8]) -> bool {
     io::write_all(STDOUT_FILENO, bytes)
@@ -7,6 +9,23 @@ pub fn text(bytes: &[u8]) -> bool {
 
 pub fn unsigned(n: u64) -> bool {
     io::print_decimal(STDOUT_FILENO, n)
+}
+
+// How far z is from 0. For z below 0, -1 - z does not wrap.
+fn magnitude(z: i64) -> u64
+    ensures { λ r. ⌜ r ≡ natAbs z ⌝ }
+{
+    if z < 0 {
+        return (-1 - z) as u64 + 1;
+    }
+    z as u64
+}
+
+pub fn signed(z: i64) -> bool {
+    if z < 0 {
+        text(b"-");
+    }
+    unsigned(magnitude(z))
 }
 
 pub fn space() -> bool {

@@ -3,7 +3,7 @@
 ghost use mathlib.Core.Path.{_≡_};
 ghost use Prim.Native.Nat.{_+_, _*_, _<_, _^_};
 ghost use lib.IntN.{pos, _+ℤ_, _-ℤ_, _*ℤ_};
-ghost use mir.Syntax.{w64};
+ghost use mir.Syntax.{w32, w64};
 ghost use mir.Val.{SFits};
 ghost use Rattle.exact.specs.Round.{roundDiv};
 ghost use Rattle.exact.specs.Floor.{atLeastZero, atMostZero};
@@ -81,6 +81,15 @@ impl CentsOver100000 {
         ensures { λ r. ⌜ r .0 ≡ atMostZero (self .0) ⌝ }
     {
         CentsOver100000(exact::at_most_zero(self.0))
+    }
+
+    // The price of each MWh of a quantity that costs this.
+    pub fn per(self, quantity: Quantity) -> MarketPrice
+        requires { ⌜ 0 < quantity .0 ⌝ }
+        requires { ⌜ SFits w32 (roundDiv (self .0) (quantity .0)) ⌝ }
+        ensures { λ r. ⌜ r .0 ≡ roundDiv (self .0) (quantity .0) ⌝ }
+    {
+        MarketPrice(exact::round_div(self.0, quantity.0) as i32)
     }
 
     pub fn rounded(self) -> Cents

@@ -1,9 +1,10 @@
 // Runs the library's public calls on a stream of cases from standard input, and prints a line for each.
 // A case is four words (the call, x, y, the number of payload bytes) and its payload; the stream ends where no whole case follows.
 use libc::STDIN_FILENO;
+use shares::Row;
 use verdict::Verdict;
 ghost use mathlib.Core.Path.{_≡_};
-ghost use Prim.Native.Nat.{_<_, _^_};
+ghost use Prim.Native.Nat.{_+_, _*_, _≤_, _<_, _^_};
 ghost use lib.ListN.{length};
 
 // Room for a payload: more than the longest file that is not refused for its length.
@@ -54,10 +55,116 @@ fn lookup(file: &[u8], area: u32) {
     show::end();
 }
 
+fn price(pairs: &[u8]) {
+    let answer = price::load_weighted(pairs);
+    show::unsigned(price::number(answer) as u64);
+    show::space();
+    show::unsigned(price::place(answer) as u64);
+    show::space();
+    show::signed(price::price_of(answer) as i64);
+    show::end();
+}
+
+// Number i that is lent: what is printed of it shows whether the call touched it.
+fn lent(i: usize) -> i64
+    requires { ⌜ i < 65536 ⌝ }
+{
+    -9000000000000000000 + (i as i64)
+}
+
+fn fill_lent(numbers: &mut [i64])
+    requires { ⌜ length (now numbers) ≤ 65536 ⌝ }
+{
+    let mut i: usize = 0;
+    while i < numbers.len() {
+        numbers[i] = lent(i);
+        i += 1;
+    }
+}
+
+fn show_numbers(numbers: &[i64]) {
+    let mut i: usize = 0;
+    while i < numbers.len() {
+        show::space();
+        show::signed(numbers[i]);
+        i += 1;
+    }
+    show::end();
+}
+
+// 64 bits as a signed number.
+fn amount_of(low: u32, high: u32) -> i64 {
+    let bits = (high as u64) * 4294967296 + (low as u64);
+    if bits < 9223372036854775808 {
+        return bits as i64;
+    }
+    -1 - ((18446744073709551615 - bits) as i64)
+}
+
+fn row(payload: &[u8], i: usize) -> Row
+    requires { ⌜ (i < 70) × (8 * i + 16 ≤ length (now payload)) ⌝ }
+{
+    let coordinator = words::word(payload, 2 * i + 2);
+    let demand = words::word(payload, 2 * i + 3);
+    Row {
+        coordinator,
+        demand,
+    }
+}
+
+fn rows_of(payload: &[u8], n: usize) -> [Row; 70]
+    requires { ⌜ (n ≤ 70) × (8 * n + 8 ≤ length (now payload)) ⌝ }
+{
+    let none = Row {
+        coordinator: 0,
+        demand: 0,
+    };
+    let mut rows = [none; 70];
+    let mut i: usize = 0;
+    while i < n {
+        rows[i] = row(payload, i);
+        i += 1;
+    }
+    rows
+}
+
+fn share_into(amount: i64, rows: [Row; 70], n: usize, charges: &mut [i64])
+    requires { ⌜ (n ≤ 70) × (length (now charges) ≤ 128) ⌝ }
+{
+    fill_lent(charges);
+    show_verdict(shares::share_array(amount, rows, n, charges));
+    show_numbers(charges);
+}
+
+fn share(payload: &[u8], x: usize) -> bool {
+    if payload.len() < 8 {
+        return bad_case();
+    }
+    let n = payload.len() / 8 - 1;
+    if 70 < n {
+        return bad_case();
+    }
+    if 128 < x {
+        return bad_case();
+    }
+    let amount = amount_of(words::word(payload, 0), words::word(payload, 1));
+    let rows = rows_of(payload, n);
+    let mut charges = [0i64; 128];
+    share_into(amount, rows, n, &mut charges[..x]);
+    true
+}
+
 fn call(number: u32, x: u32, payload: &[u8]) -> bool {
     if number == 1 {
         check(payload);
         return true;
+    }
+    if number == 3 {
+        price(payload);
+        return true;
+    }
+    if number == 4 {
+        return share(payload, x as usize);
     }
     if number == 5 {
         lookup(payload, x);

@@ -1,0 +1,34 @@
+-- The answer of an average, and what a kept check of the pairs tells.
+use Prim.Native.Nat.{ℕ, _≤_, _<_}
+use mathlib.Core.Bool.{false}
+use mathlib.Core.List.{List}
+use mathlib.Core.Path.{_≡_}
+use lib.IntN.{natAbs}
+use borrow.Author.Tests.{eq-eqb, ne-eqb}
+use Rattle.exact.specs.Round.{roundDiv}
+use Rattle.verdict.specs.Verdict.{numberOf}
+use Rattle.verdict.proofs.First.{scan-each}
+use Rattle.words.specs.Word.{signedOf}
+use Rattle.body.specs.Layout.{missing}
+use Rattle.body.proofs.Rules.{pair-kept}
+use Rattle.price.specs.declared.Average.{Average}
+use Rattle.price.specs.declared.PriceAnswer.the-variants.{Price, NoQuantity}
+use Rattle.price.specs.Price.{answerOf, quantityOf, priceOf, pairOf, pairsRule}
+use Rattle.price.specs.Ranged.{Ranged}
+
+module _ (average : Average) where
+  pub no-quantity : average .quantity .0 ≡ 0 → NoQuantity ≡ answerOf average
+  unfolding answerOf
+  no-quantity e = simp (eq-eqb _ _ e)
+
+  pub some-quantity : (average .quantity .0 ≡ 0 → ⊥) → Price (record { 0 = roundDiv (average .value .0) (average .quantity .0) }) ≡ answerOf average
+  unfolding answerOf
+  some-quantity e = simp (ne-eqb _ _ e)
+
+module _ (pairs : List ℕ) (n : ℕ) (accepted : numberOf (pairsRule pairs n) ≡ 0) where
+  pair : (i : ℕ) → i < n → (quantityOf pairs i ≤ 10000000) × (missing (priceOf pairs i) ≡ false → natAbs (signedOf (priceOf pairs i)) ≤ 20000000)
+  unfolding pairsRule pairOf
+  pair i p = pair-kept i i (quantityOf pairs i) (priceOf pairs i) (scan-each (pairOf pairs) n accepted i p)
+
+  pub pairs-ranged : Ranged pairs n
+  pairs-ranged = record { quantity = λ i p. pair i p .0; price = λ i p. pair i p .1 }

@@ -1,0 +1,169 @@
+// The load-weighted price of an hour: an average that is built up one interval at a time.
+use units::CentsOver100000;
+use units::MarketPrice;
+use units::Quantity;
+use verdict::Verdict;
+ghost use mathlib.Core.Path.{_≡_};
+ghost use Prim.Native.Nat.{_+_, _*_, _/_, _≤_, _<_, _^_};
+ghost use lib.IntN.{natAbs};
+ghost use lib.ListN.{length};
+ghost use Rattle.price.specs.Price.{emptyAverage, withInterval, averageOf, answerOf, averagePrice, pairsRule, loadWeightedWithin, loadWeighted, answerNumber, answerPlace, answerPrice};
+ghost use Rattle.price.specs.Ranged.{Ranged};
+
+// The sum of quantity × price over the intervals whose price is present, and the sum of the same quantities.
+pub struct Average {
+    pub value: CentsOver100000,
+    pub quantity: Quantity,
+}
+
+pub enum PriceAnswer {
+    Price(MarketPrice),
+    BadLength,
+    OutOfRange { pair: usize },
+    NoQuantity,
+}
+
+impl Average {
+    pub fn empty() -> Average
+        ensures { λ r. ⌜ r ≡ emptyAverage ⌝ }
+    {
+        Average {
+            value: CentsOver100000(0),
+            quantity: Quantity(0),
+        }
+    }
+
+    // One interval more: a missing price leaves its quantity out too.
+    pub fn with_interval(mut self, quantity: u32, price: u32) -> Average
+        requires { ⌜ (natAbs (self .value .0) ≤ 2 ^ 62) × ((quantity ≤ 10000000) × (self .quantity .0 + quantity < 2 ^ 32)) ⌝ }
+        ensures { λ r. ⌜ r ≡ withInterval self quantity price ⌝ }
+    {
+        if price == 2147483648 {
+            return self;
+        }
+        let value = self.value;
+        let sum = self.quantity;
+        let more = Quantity(quantity);
+        self.value = value.plus(more.at_market_price(MarketPrice(words::signed(price))));
+        self.quantity = sum.plus(more);
+        self
+    }
+}
+
+// The average of the first n intervals.
+fn averaged(pairs: &[u8], n: usize) -> Average
+    requires { ⌜ (n ≤ 384) × (8 * n ≤ length (now pairs)) ⌝ }
+    requires { ⌜ Ranged (now pairs) n ⌝ }
+    ensures { λ r. ⌜ r ≡ averageOf (now (pairs .entry)) n ⌝ }
+{
+    let mut average = Average::empty();
+    let mut i: usize = 0;
+    while i < n {
+        average = average.with_interval(words::word(pairs, 2 * i), words::word(pairs, 2 * i + 1));
+        i += 1;
+    }
+    average
+}
+
+// The price of n intervals whose numbers are in range: of a file that the check accepts, or past the call's own check.
+pub fn average_price(pairs: &[u8], n: usize) -> PriceAnswer
+    requires { ⌜ (n ≤ 384) × (8 * n ≤ length (now pairs)) ⌝ }
+    requires { ⌜ Ranged (now pairs) n ⌝ }
+    ensures { λ r. ⌜ r ≡ averagePrice (now (pairs .entry)) n ⌝ }
+{
+    let average = averaged(pairs, n);
+    let quantity = average.quantity;
+    let value = average.value;
+    if quantity.0 == 0 {
+        return PriceAnswer::NoQuantity;
+    }
+    PriceAnswer::Price(value.per(quantity))
+}
+
+// The first pair with a number out of range.
+fn check_pairs(pairs: &[u8], n: usize) -> Verdict
+    requires { ⌜ 8 * n ≤ length (now pairs) ⌝ }
+    ensures { λ r. ⌜ r ≡ pairsRule (now (pairs .entry)) n ⌝ }
+{
+    let mut i: usize = 0;
+    while i < n {
+        let v = body::pair(
+            i,
+            i,
+            words::word(pairs, 2 * i),
+            words::word(pairs, 2 * i + 1),
+        );
+        if verdict::number(v) != 0 {
+            return v;
+        }
+        i += 1;
+    }
+    Verdict::Accepted
+}
+
+// The price of an hour with one to `most` load points.
+pub fn load_weighted_within(most: usize, pairs: &[u8]) -> PriceAnswer
+    requires { ⌜ most ≤ 32 ⌝ }
+    ensures { λ r. ⌜ r ≡ loadWeightedWithin most (now (pairs .entry)) ⌝ }
+{
+    if pairs.len() % 96 != 0 {
+        return PriceAnswer::BadLength;
+    }
+    if pairs.len() < 96 {
+        return PriceAnswer::BadLength;
+    }
+    if 96 * most < pairs.len() {
+        return PriceAnswer::BadLength;
+    }
+    let n = pairs.len() / 8;
+    let v = check_pairs(pairs, n);
+    if verdict::number(v) != 0 {
+        return PriceAnswer::OutOfRange {
+            pair: verdict::place(v),
+        };
+    }
+    average_price(pairs, n)
+}
+
+// The load-weighted price of an hour's interval pairs.
+pub fn load_weighted(pairs: &[u8]) -> PriceAnswer
+    ensures { λ r. ⌜ r ≡ loadWeighted (now (pairs .entry)) ⌝ }
+{
+    load_weighted_within(limits::edition_one().points as usize, pairs)
+}
+
+// The number of document 01's table.
+pub fn number(answer: PriceAnswer) -> u32
+    ensures { λ r. ⌜ r ≡ answerNumber answer ⌝ }
+{
+    match answer {
+        PriceAnswer::Price(_) => 0,
+        PriceAnswer::BadLength => 1,
+        PriceAnswer::OutOfRange { pair: _ } => 9,
+        PriceAnswer::NoQuantity => 11,
+    }
+}
+
+// The place of document 01's table.
+pub fn place(answer: PriceAnswer) -> usize
+    ensures { λ r. ⌜ r ≡ answerPlace answer ⌝ }
+{
+    match answer {
+        PriceAnswer::Price(_) => 0,
+        PriceAnswer::BadLength => 0,
+        PriceAnswer::OutOfRange { pair } => pair,
+        PriceAnswer::NoQuantity => 0,
+    }
+}
+
+// The price; 0 for a refusal.
+pub fn price_of(answer: PriceAnswer) -> i32
+    ensures { λ r. ⌜ r ≡ answerPrice answer ⌝ }
+{
+    match answer {
+        PriceAnswer::Price(price) => price.0,
+        PriceAnswer::BadLength => 0,
+        PriceAnswer::OutOfRange { pair: _ } => 0,
+        PriceAnswer::NoQuantity => 0,
+    }
+}

@@ -1,0 +1,9 @@
+pub mod Totals
+pub mod Accepted
+pub mod Sharing
+pub mod Columns
+pub mod AddsUp
+pub mod WithinACent
+pub mod Turned
+pub mod Merged
+pub mod Nothing

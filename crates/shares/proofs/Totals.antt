@@ -1,0 +1,27 @@
+-- The total of demands, and the running demand.
+use mathlib.Core.Path.{_≡_, sym, ap}
+use mathlib.Core.List.{List, [], _∷_, _++_}
+use Prim.Native.Nat.{ℕ, _+_, _<_}
+use native.Mathlib.Nat.{add-assoc, add-zero}
+use native.Mathlib.Numerals.{add-one}
+use native.Mathlib.Omega.{arith}
+use lib.ListN.{length, getD, take, drop}
+use lib.Seq.{take-suc}
+use Rattle.exact.proofs.Filling.{drop-next}
+use Rattle.shares.specs.Shares.{total}
+use Rattle.shares.specs.Rows.{demandBefore}
+
+pub total-append : (xs ys : List ℕ) → total (xs ++ ys) ≡ total xs + total ys
+unfolding total
+total-append [] ys = omega arith
+total-append (x ∷ xs) ys = rw (total-append xs ys) (sym (add-assoc x (total xs) (total ys)))
+
+module _ (demands : List ℕ) (i : ℕ) (h : i < length demands) where
+  -- what is left at i: the demand there, and the rest
+  pub total-drop : total (drop i demands) ≡ getD demands i 0 + total (drop (i + 1) demands)
+  unfolding total
+  total-drop = ap total (drop-next demands i 0 h)
+
+  pub before-next : demandBefore demands (i + 1) ≡ demandBefore demands i + getD demands i 0
+  unfolding demandBefore total
+  before-next = rw (add-one i, take-suc demands i 0 h, total-append (take i demands) (getD demands i 0 ∷ []), add-zero (getD demands i 0))

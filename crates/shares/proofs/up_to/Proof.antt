@@ -1,0 +1,38 @@
+use borrow.Author.Needs.{needs}
+use Prim.Native.Nat.{ℕ, suc, _*_, _≤_}
+use mathlib.Core.Path.{_≡_, ap, _∙_}
+use native.Mathlib.Omega.{arith}
+use native.Mathlib.Nat.{mul-zero, div-zero}
+use lib.IntN.{ℤ, pos, negsuc, negℤ, natAbs, _*ℤ_}
+use mir.Syntax.{w64}
+use mir.ValLaws.{toZ-ofZ}
+use Rattle.exact.specs.Round.{roundDiv, halfUp}
+use Rattle.exact.proofs.Magnitude.{abs-mul≤}
+use Rattle.exact.proofs.Machine.{within, got}
+use Rattle.shares.proofs.up_to.Statement.{statement}
+use Rattle.shares.proofs.up_to.Tie as tie
+
+half-by-zero : (a : ℕ) → halfUp a 0 ≡ 0
+half-by-zero a = rw (mul-zero 2, div-zero)
+
+by-zero : (z : ℤ) → roundDiv z 0 ≡ pos 0
+unfolding roundDiv
+by-zero (pos a) = ap pos (half-by-zero a)
+by-zero (negsuc a) = ap (λ n. negℤ (pos n)) (half-by-zero (suc a))
+
+product : (s : tie.Start) → natAbs (s .args .amount *ℤ pos (s .args .running)) ≤ 10000000000 * 100000000
+product s = abs-mul≤ 10000000000 100000000 (s .args .amount) (pos (s .args .running)) (s .pre .0) (s .pre .1)
+
+returns : tie.Need-returns
+returns c = rw (c .if1 .taken, by-zero)
+
+times-requires : tie.Need-times-requires
+times-requires c κs = rw (toZ-ofZ w64 _ (c .before .fits .amount)) (within w64 _ (omega (arith, product (c .before))))
+
+returns-2 : tie.Need-returns-2
+returns-2 c =
+    got w64 (c .round-div .ok)
+    (c .round-div .ensures ∙ simp (got w64 (c .before .times .ok) (c .before .times .ensures), toZ-ofZ w64 _ (c .before .before .before .fits .amount)))
+
+pub up-to-spec : {M : Type 1} → statement M
+up-to-spec = tie.close (tie.spec returns times-requires (λ c κs. search needs) returns-2)

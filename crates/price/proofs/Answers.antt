@@ -1,11 +1,15 @@
--- The answer of an average, and what a kept check of the pairs tells.
-use Prim.Native.Nat.{ℕ, _≤_, _<_}
-use mathlib.Core.Bool.{false}
+-- The answer of an average, how large its price gets, and what a kept check of the pairs tells.
+use Prim.Native.Nat.{ℕ, _≤_, _<_, zero-le}
+use mathlib.Core.Bool.{Bool, true, false}
 use mathlib.Core.List.{List}
-use mathlib.Core.Path.{_≡_}
+use mathlib.Core.Path.{_≡_, refl}
+use native.Mathlib.Nat.{le-refl}
+use native.Mathlib.Omega.{arith}
+use lib.Dec.{eqb}
 use lib.IntN.{natAbs}
-use borrow.Author.Tests.{eq-eqb, ne-eqb}
+use borrow.Author.Tests.{eq-eqb, ne-eqb, eqb-false}
 use Rattle.exact.specs.Round.{roundDiv}
+use Rattle.exact.proofs.Round.{round-within}
 use Rattle.verdict.specs.Verdict.{numberOf}
 use Rattle.verdict.proofs.First.{scan-each}
 use Rattle.words.specs.Word.{signedOf}
@@ -13,8 +17,9 @@ use Rattle.body.specs.Layout.{missing}
 use Rattle.body.proofs.Rules.{pair-kept}
 use Rattle.price.specs.declared.Average.{Average}
 use Rattle.price.specs.declared.PriceAnswer.the-variants.{Price, NoQuantity}
-use Rattle.price.specs.Price.{answerOf, quantityOf, priceOf, pairOf, pairsRule}
+use Rattle.price.specs.Price.{answerOf, answerPrice, averageOf, averagePrice, quantityOf, priceOf, pairOf, pairsRule}
 use Rattle.price.specs.Ranged.{Ranged}
+use Rattle.price.proofs.Sizes.{Sized, average-sized}
 
 module _ (average : Average) where
   pub no-quantity : average .quantity .0 ≡ 0 → NoQuantity ≡ answerOf average
@@ -32,3 +37,15 @@ module _ (pairs : List ℕ) (n : ℕ) (accepted : numberOf (pairsRule pairs n) �
 
   pub pairs-ranged : Ranged pairs n
   pairs-ranged = record { quantity = λ i p. pair i p .0; price = λ i p. pair i p .1 }
+
+-- ---- a price lies between the prices that it is the average of
+
+answer-by : (average : Average) (n : ℕ) (t : Bool) → eqb (average .quantity .0) 0 ≡ t → Sized average n → natAbs (answerPrice (answerOf average)) ≤ 20000000
+unfolding answerOf
+answer-by average n true e z = rw e zero-le
+answer-by average n false e z =
+    let some : 0 < average .quantity .0 = omega (arith, eqb-false (average .quantity .0) 0 e) in
+    rw e (round-within 20000000 (average .value .0) (average .quantity .0) some (z .value))
+
+pub price-within : (pairs : List ℕ) (n : ℕ) → Ranged pairs n → natAbs (answerPrice (averagePrice pairs n)) ≤ 20000000
+price-within pairs n r = answer-by (averageOf pairs n) n (eqb (averageOf pairs n .quantity .0) 0) refl (average-sized pairs n n r (le-refl n))

@@ -1,0 +1,4 @@
+pub mod Sizes
+pub mod Quantities
+pub mod Hours
+pub mod HourAmounts

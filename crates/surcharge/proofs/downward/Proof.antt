@@ -1,0 +1,30 @@
+use borrow.Author.Needs.{needs}
+use mathlib.Core.Path.{_≡_, ap, _∙_}
+use borrow.Author.Tests.{le-leb, lt-leb}
+use lib.IntN.{pos, _*ℤ_}
+use Rattle.exact.specs.Round.{roundDiv}
+use Rattle.exact.specs.Floor.{atMostZero}
+use Rattle.surcharge.specs.Surcharge.{downwardOf}
+use Rattle.surcharge.proofs.downward.Statement.{statement}
+use Rattle.surcharge.proofs.downward.Tie as tie
+
+returns : tie.Need-returns
+unfolding downwardOf
+returns c = simp (le-leb _ _ (c .if1 .taken))
+
+returns-2 : tie.Need-returns-2
+unfolding downwardOf
+returns-2 c =
+    c .rounded .ensures
+    ∙ ap (λ z. roundDiv z 100000) (c .before .at-most-zero .ensures ∙ ap atMostZero (c .before .before .at-market-price .ensures))
+    ∙ simp (lt-leb _ _ (c .before .before .before .if1 .left))
+
+pub downward-spec : {M : Type 1} → statement M
+downward-spec =
+    tie.close
+    (tie.spec
+    returns
+    (λ c κs. search needs)
+    (λ c κs. search needs)
+    (λ c κs. search needs)
+    returns-2)

@@ -84,11 +84,11 @@ module _ (start : ℕ) (body : List ℕ) (limits : Limits) (ciso : ℕ) (accepte
 -- ---- of a sound body
 
 -- an hour's demands together are at most 100,000,000
-pub demand-total : (most : ℕ) (body : List ℕ) → Sound most body → (h : ℕ) → h < 24 → (n : ℕ) → n ≤ coordinatorsOf body
+pub hour-demand : (most : ℕ) (body : List ℕ) → Sound most body → (h : ℕ) → h < 24 → (n : ℕ) → n ≤ coordinatorsOf body
     → runningDemand body (demandsAt body h) n ≤ 100000000
 unfolding runningDemand
-demand-total most body s h below zero p = zero-le
-demand-total most body s h below (suc n) p = s .demand h n below p .1
+hour-demand most body s h below zero p = zero-le
+hour-demand most body s h below (suc n) p = s .demand h n below p .1
 
 -- an hour lies within its body
 pub hour-inside : (most : ℕ) (body : List ℕ) → Sound most body → (h : ℕ) → h < 24

@@ -7,3 +7,4 @@ pub mod WithinACent
 pub mod Turned
 pub mod Merged
 pub mod Nothing
+pub mod Length

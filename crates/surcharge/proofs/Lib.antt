@@ -2,3 +2,4 @@ pub mod Sizes
 pub mod Quantities
 pub mod Hours
 pub mod HourAmounts
+pub mod AmountSizes

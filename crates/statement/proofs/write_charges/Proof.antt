@@ -1,0 +1,55 @@
+use borrow.Author.Needs.{needs}
+use denote.Ref.{now}
+use Prim.Native.Nat.{_≤_}
+use mathlib.Core.List.{[], _∷_, _++_}
+use mathlib.Core.Path.{_≡_, sym, ap, ap₂, _∙_}
+use native.Mathlib.Omega.{arith}
+use lib.ListN.{length, drop}
+use lib.Seq.{sets-eq}
+use mir.Syntax.{w64}
+use mir.ValLaws.{toZ-ofZ}
+use Rattle.shares.specs.Shares.{shares, total}
+use Rattle.statement.proofs.Demands.{demand-length, demand-total}
+use Rattle.statement.proofs.Charges.{charges-one, charges-shared}
+use Rattle.statement.proofs.write_charges.Statement.{statement}
+use Rattle.statement.proofs.write_charges.Tie as tie
+
+returns : tie.Need-returns
+returns c =
+    let s = c .before .before in
+    let a = s .args in
+    let one = s .pre .1 .1 (c .if1 .taken) in
+    rw (toZ-ofZ w64 _ (s .fits .amount), charges-one (a .kind) (a .amount) (now (a .body)) (a .from) (a .count) (c .if1 .taken), one)
+    (sets-eq (a .amount ∷ []) (now (a .charges)) 0 (omega arith))
+
+slice-aggregate-share-demands : tie.Need-slice-aggregate-share-demands
+slice-aggregate-share-demands c = let a = c .before .before .before .before .args in sym (ap length (c .before .demands-from .ensures) ∙ demand-length (now (a .body)) (a .from) (a .count))
+
+share-demands-requires : tie.Need-share-demands-requires
+share-demands-requires c κs =
+    let s = c .before .before .before .before .before in
+    let a = s .args in
+    rw (toZ-ofZ w64 _ (s .fits .amount), c .before .before .demands-from .ensures, demand-total (now (a .body)) (a .from) (a .count), demand-length (now (a .body)) (a .from) (a .count))
+    (s .pre .0 .0, (s .pre .1 .0 .1 .1, s .pre .0 .1 .1))
+
+returns-2 : tie.Need-returns-2
+returns-2 c =
+    let s = c .before .before .before .before .before .before .before in
+    let a = s .args in
+    let m = demand-length (now (a .body)) (a .from) (a .count) in
+    c .before .share-demands .ensures
+    ∙ rw (toZ-ofZ w64 _ (s .fits .amount), c .before .before .before .before .demands-from .ensures, m, charges-shared (a .kind) (a .amount) (now (a .body)) (a .from) (a .count) (c .before .before .before .before .before .if1 .left))
+
+pub write-charges-spec : {M : Type 1} → statement M
+write-charges-spec =
+    tie.close
+    (tie.spec
+    (λ c. search needs)
+    (λ c. search needs)
+    returns
+    (λ c κs. search needs)
+    (λ c. search needs)
+    slice-aggregate-share-demands
+    share-demands-requires
+    (λ c. search needs)
+    returns-2)

@@ -1,0 +1,46 @@
+-- The statement of one area: 24 hours of on-peak amount, off-peak amount, downward amount, and a charge for each coordinator.
+-- A function of the peak word, the area's persistent days and its body alone.
+use Prim.Native.Nat.{ℕ, zero, suc, _+_, _*_}
+use mathlib.Core.Bool.{cond}
+use mathlib.Core.List.{List, [], _∷_, _++_}
+use lib.Dec.{eqb}
+use lib.IntN.{ℤ}
+use Rattle.words.specs.Word.{wordAt}
+use Rattle.body.specs.Layout.{kindOf, coordinatorsOf, demandsAt}
+use Rattle.shares.specs.Shares.{shares}
+use Rattle.surcharge.specs.Surcharge.{onPeakAmount, offPeakAmount, downwardAmount, amountAt}
+
+-- how many numbers an hour has before its charges
+abbrev pub amountsShown : ℕ
+amountsShown = 3
+
+abbrev pub hourNumbers : ℕ → ℕ
+hourNumbers coordinators = amountsShown + coordinators
+
+-- "24(3 + K)"
+abbrev pub areaNumbers : ℕ → ℕ
+areaNumbers coordinators = 24 * hourNumbers coordinators
+
+-- the first n demands from a word on
+unfoldable pub demandList : List ℕ → ℕ → ℕ → List ℕ
+demandList body from zero = []
+demandList body from (suc n) = demandList body from n ++ (wordAt body (from + n) ∷ [])
+
+-- "Kind 0: the one coordinator is charged A. Kind 1: .." its share by running demands
+unfoldable pub chargesFrom : (kind : ℕ) (amount : ℤ) (body : List ℕ) (from count : ℕ) → List ℤ
+chargesFrom kind amount body from count = cond (eqb kind 1) (shares amount (demandList body from count)) (amount ∷ [])
+
+module _ (peak days : ℕ) (body : List ℕ) where
+  abbrev pub chargesAt : ℕ → List ℤ
+  chargesAt h = chargesFrom (kindOf body) (amountAt body peak days h) body (demandsAt body h) (coordinatorsOf body)
+
+  unfoldable pub hourBlock : ℕ → List ℤ
+  hourBlock h = onPeakAmount body peak days h ∷ offPeakAmount body peak h ∷ downwardAmount body h ∷ chargesAt h
+
+  -- the first n hours
+  unfoldable pub hoursBlock : ℕ → List ℤ
+  hoursBlock zero = []
+  hoursBlock (suc n) = hoursBlock n ++ hourBlock n
+
+  abbrev pub block : List ℤ
+  block = hoursBlock 24

@@ -1,0 +1,2 @@
+pub mod SoundFile
+pub mod Settlement

@@ -1,0 +1,68 @@
+-- The settlement of a day file: the numbers needed, the statement, and the first refusal. `days` has the persistent days d of each area, in file order.
+use Prim.Native.Nat.{ℕ, zero, suc, _+_, _*_}
+use mathlib.Core.Bool.{Bool, cond, not, _&&_, _||_}
+use mathlib.Core.List.{List, [], _∷_, _++_}
+use lib.Dec.{eqb, leb, ltb}
+use lib.IntN.{ℤ, natAbs}
+use lib.ListN.{getD, drop}
+use Rattle.verdict.specs.declared.Verdict.{Verdict}
+use Rattle.verdict.specs.declared.Verdict.the-variants.{Accepted, PriceWithoutQuantity, AmountWithoutDemand, RoomTooShort}
+use Rattle.verdict.specs.Verdict.{numberOf}
+use Rattle.verdict.specs.First.{rule_else_then_, _orElse_, scan}
+use Rattle.body.specs.Layout.{kindOf, daysOf, coordinatorsOf, intervalsAt, demandsAt, runningDemand}
+use Rattle.dayfile.specs.File.{areasOf, peakOf, startAt, bodyAt}
+use Rattle.dayfile.specs.Check.{checkOf}
+use Rattle.price.specs.Price.{answerNumber}
+use Rattle.surcharge.specs.Surcharge.{amountAt, priceAnswerAt, priceNeeded}
+use Rattle.statement.specs.Block.{areaNumbers, block}
+
+module _ (file : List ℕ) where
+  -- the numbers of the first n areas
+  unfoldable pub neededTo : ℕ → ℕ
+  neededTo zero = 0
+  neededTo (suc k) = neededTo k + areaNumbers (coordinatorsOf (bodyAt file k))
+
+  -- "Numbers needed: the sum of 24(3 + K)"
+  abbrev pub numbersNeeded : ℕ
+  numbersNeeded = neededTo (areasOf file)
+
+  -- the blocks of the first n areas, in file order
+  unfoldable pub statementTo : List ℕ → ℕ → List ℤ
+  statementTo days zero = []
+  statementTo days (suc k) = statementTo days k ++ block (peakOf file) (getD days k 0) (bodyAt file k)
+
+-- 11: a needed price has no quantity under it; 12: kind 1, A not 0, T = 0
+unfoldable pub hourRule : (peak days start : ℕ) → List ℕ → ℕ → Verdict
+hourRule peak days start body h =
+    rule not (priceNeeded body peak h && eqb (answerNumber (priceAnswerAt body h)) 11) else PriceWithoutQuantity (start + intervalsAt body h) then
+    rule not (eqb (kindOf body) 1) || eqb (natAbs (amountAt body peak days h)) 0 || ltb 0 (runningDemand body (demandsAt body h) (coordinatorsOf body))
+    else AmountWithoutDemand (start + demandsAt body h) then
+    Accepted
+
+module _ (days : List ℕ) (file : List ℕ) where
+  unfoldable pub areaRule : ℕ → Verdict
+  areaRule k = scan (hourRule (peakOf file) (getD days k 0) (startAt file k) (bodyAt file k)) 0 24
+
+  unfoldable pub areasRule : Verdict
+  areasRule = scan areaRule 0 (areasOf file)
+
+  -- the check's 1 to 10, then 13, then areas and hours in order
+  unfoldable pub settleWith : ℕ → Verdict
+  settleWith room =
+      checkOf file
+      orElse (rule leb (numbersNeeded file) room else RoomTooShort (numbersNeeded file) then areasRule)
+
+  -- the statement afterwards: a refusal leaves it as it was, numbers past the needed ones stay
+  unfoldable pub afterWith : Verdict → List ℤ → List ℤ
+  afterWith verdict statement = cond (eqb (numberOf verdict) 0) (statementTo file days (areasOf file) ++ drop (numbersNeeded file) statement) statement
+
+-- the file's own persistent days of the first n areas
+unfoldable pub fileDays : List ℕ → ℕ → List ℕ
+fileDays file zero = []
+fileDays file (suc k) = fileDays file k ++ (daysOf (bodyAt file k) ∷ [])
+
+abbrev pub settleOf : List ℕ → ℕ → Verdict
+settleOf file room = settleWith (fileDays file (areasOf file)) file room
+
+abbrev pub after : Verdict → List ℕ → List ℤ → List ℤ
+after verdict file statement = afterWith (fileDays file (areasOf file)) file verdict statement

@@ -1,0 +1,59 @@
+// Settles a day file into a lent statement: the numbers needed, the first refusal, and the writing, which can refuse nothing.
+ghost use mathlib.Core.Path.{_≡_};
+ghost use mathlib.Core.List.{_++_};
+ghost use Prim.Native.Nat.{ℕ, _+_, _*_, _≤_, _<_};
+ghost use lib.ListN.{length, drop, getD};
+ghost use Rattle.body.specs.Layout.{runningDemand};
+ghost use Rattle.dayfile.specs.File.{areasOf, peakOf};
+ghost use Rattle.settlement.specs.SoundFile.{SoundFile};
+ghost use Rattle.settlement.specs.Settlement.{neededTo, statementTo};
+
+// How many numbers the statement of n areas takes.
+fn numbers_needed(file: &[u8], n: usize) -> usize
+    requires { ⌜ (SoundFile (now file)) × (n ≡ areasOf (now file)) ⌝ }
+    ensures { λ r. ⌜ r ≡ neededTo (now (file .entry)) n ⌝ }
+{
+    let mut needed: usize = 0;
+    let mut k: usize = 0;
+    while k < n {
+        let start = words::word(file, 4 + 3 * k + 1) as usize;
+        let count = words::word(file, start + 6) as usize;
+        needed += 24 * (3 + count);
+        k += 1;
+    }
+    needed
+}
+
+// The blocks of n areas, each lent its own part of the statement.
+fn write_areas(peak: u32, days: &[u32], file: &[u8], n: usize, statement: &mut [i64])
+    requires { ⌜ (SoundFile (now file)) × ((n ≡ areasOf (now file)) × (peak ≡ peakOf (now file))) ⌝ }
+    requires { ⌜ (n ≤ length (now days)) × ((k : ℕ) → k < n → getD (now days) k 0 ≤ 30) ⌝ }
+    requires { ⌜ neededTo (now file) n ≤ length (now statement) ⌝ }
+    ensures { λ _. ⌜ now (statement .exit) ≡ statementTo (now (file .entry)) (now (days .entry)) n ++ drop (neededTo (now (file .entry)) n) (now (statement .entry)) ⌝ }
+{
+    let mut to: usize = 0;
+    let mut k: usize = 0;
+    while k < n {
+        let at = 4 + 3 * k;
+        let from = 4 * (words::word(file, at + 1) as usize);
+        let end = from + 4 * (words::word(file, at + 2) as usize);
+        let body = &file[from..end];
+        statement::write_area(peak, days[k], body, &mut statement[to..]);
+        to += 24 * (3 + (words::word(body, 6) as usize));
+        k += 1;
+    }
+}
+
+// T of an hour: the sum of its demands.
+fn total_demand(body: &[u8], from: usize, count: usize) -> u32
+    requires { ⌜ (4 * (from + count) ≤ length (now body)) × ((i : ℕ) → i ≤ count → runningDemand (now body) from i ≤ 100000000) ⌝ }
+    ensures { λ r. ⌜ r ≡ runningDemand (now (body .entry)) from count ⌝ }
+{
+    let mut total: u32 = 0;
+    let mut i: usize = 0;
+    while i < count {
+        total += words::word(body, from + i);
+        i += 1;
+    }
+    total
+}

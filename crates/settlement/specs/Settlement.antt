@@ -1,6 +1,6 @@
 -- The settlement of a day file: the numbers needed, the statement, and the first refusal. `days` has the persistent days d of each area, in file order.
 use Prim.Native.Nat.{ℕ, zero, suc, _+_, _*_}
-use mathlib.Core.Bool.{Bool, cond, not, _&&_, _||_}
+use mathlib.Core.Bool.{Bool, cond, not, _||_}
 use mathlib.Core.List.{List, [], _∷_, _++_}
 use lib.Dec.{eqb, leb, ltb}
 use lib.IntN.{ℤ, natAbs}
@@ -12,8 +12,7 @@ use Rattle.verdict.specs.First.{rule_else_then_, _orElse_, scan}
 use Rattle.body.specs.Layout.{kindOf, daysOf, coordinatorsOf, intervalsAt, demandsAt, runningDemand}
 use Rattle.dayfile.specs.File.{areasOf, peakOf, startAt, bodyAt}
 use Rattle.dayfile.specs.Check.{checkOf}
-use Rattle.price.specs.Price.{answerNumber}
-use Rattle.surcharge.specs.Surcharge.{amountAt, priceAnswerAt, priceNeeded}
+use Rattle.surcharge.specs.Surcharge.{amountAt, priceMissing}
 use Rattle.statement.specs.Block.{areaNumbers, block}
 
 module _ (file : List ℕ) where
@@ -31,12 +30,17 @@ module _ (file : List ℕ) where
   statementTo days zero = []
   statementTo days (suc k) = statementTo days k ++ block (peakOf file) (getD days k 0) (bodyAt file k)
 
--- 11: a needed price has no quantity under it; 12: kind 1, A not 0, T = 0
+-- there is somebody to charge: not so for kind 1, A not 0, T = 0
+unfoldable pub chargeable : List ℕ → (peak days h : ℕ) → Bool
+chargeable body peak days h =
+    not (eqb (kindOf body) 1)
+    || (eqb (natAbs (amountAt body peak days h)) 0 || ltb 0 (runningDemand body (demandsAt body h) (coordinatorsOf body)))
+
+-- 11, then 12, of hour h
 unfoldable pub hourRule : (peak days start : ℕ) → List ℕ → ℕ → Verdict
 hourRule peak days start body h =
-    rule not (priceNeeded body peak h && eqb (answerNumber (priceAnswerAt body h)) 11) else PriceWithoutQuantity (start + intervalsAt body h) then
-    rule not (eqb (kindOf body) 1) || eqb (natAbs (amountAt body peak days h)) 0 || ltb 0 (runningDemand body (demandsAt body h) (coordinatorsOf body))
-    else AmountWithoutDemand (start + demandsAt body h) then
+    rule not (priceMissing body peak h) else PriceWithoutQuantity (start + intervalsAt body h) then
+    rule chargeable body peak days h else AmountWithoutDemand (start + demandsAt body h) then
     Accepted
 
 module _ (days : List ℕ) (file : List ℕ) where

@@ -1,12 +1,16 @@
 // Settles a day file into a lent statement: the numbers needed, the first refusal, and the writing, which can refuse nothing.
+use surcharge::Day;
+use verdict::Verdict;
 ghost use mathlib.Core.Path.{_≡_};
 ghost use mathlib.Core.List.{_++_};
 ghost use Prim.Native.Nat.{ℕ, _+_, _*_, _≤_, _<_};
 ghost use lib.ListN.{length, drop, getD};
-ghost use Rattle.body.specs.Layout.{runningDemand};
+ghost use Rattle.body.specs.Layout.{hourAt, runningDemand};
+ghost use Rattle.body.specs.Sound.{Sound};
 ghost use Rattle.dayfile.specs.File.{areasOf, peakOf};
+ghost use Rattle.surcharge.specs.Surcharge.{dayOf};
 ghost use Rattle.settlement.specs.SoundFile.{SoundFile};
-ghost use Rattle.settlement.specs.Settlement.{neededTo, statementTo};
+ghost use Rattle.settlement.specs.Settlement.{neededTo, statementTo, chargeable, hourRule};
 
 // How many numbers the statement of n areas takes.
 fn numbers_needed(file: &[u8], n: usize) -> usize
@@ -56,4 +60,43 @@ fn total_demand(body: &[u8], from: usize, count: usize) -> u32
         i += 1;
     }
     total
+}
+
+// Whether there is somebody to charge for hour h. The amounts are only asked for where there is no demand.
+fn chargeable_hour(peak: u32, day: Day, body: &[u8], h: usize, at: usize) -> bool
+    requires { ⌜ (Sound 32 (now body)) × ((h < 24) × (at ≡ hourAt (now body) h)) ⌝ }
+    requires { ⌜ (day ≡ dayOf peak (day .days) (now body)) × (day .days ≤ 30) ⌝ }
+    ensures { λ r. ⌜ r ≡ chargeable (now (body .entry)) peak (day .days) h ⌝ }
+{
+    if words::word(body, 0) != 1 {
+        return true;
+    }
+    let load = words::word(body, 5) as usize;
+    let count = words::word(body, 6) as usize;
+    let total = total_demand(body, at + 8 + 24 * load, count);
+    if 0 < total {
+        return true;
+    }
+    let amount = statement::amount_of(surcharge::hour_amounts(peak, day, body, h, at));
+    shares::shareable(amount.0, total)
+}
+
+// The first of 11 and 12 that hour h breaks, in the body that starts at word `start` of the file.
+fn check_hour(peak: u32, day: Day, start: usize, body: &[u8], h: usize, at: usize) -> Verdict
+    requires { ⌜ (Sound 32 (now body)) × ((h < 24) × (at ≡ hourAt (now body) h)) ⌝ }
+    requires { ⌜ (day ≡ dayOf peak (day .days) (now body)) × ((day .days ≤ 30) × (start < 4294967296)) ⌝ }
+    ensures { λ r. ⌜ r ≡ hourRule peak (day .days) start (now (body .entry)) h ⌝ }
+{
+    if surcharge::price_missing(peak, day, body, h, at) {
+        return Verdict::PriceWithoutQuantity {
+            place: start + (at + 8),
+        };
+    }
+    if !chargeable_hour(peak, day, body, h, at) {
+        let load = words::word(body, 5) as usize;
+        return Verdict::AmountWithoutDemand {
+            place: start + (at + 8 + 24 * load),
+        };
+    }
+    Verdict::Accepted
 }

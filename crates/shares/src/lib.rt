@@ -139,7 +139,7 @@ fn with_row(table: Table, row: Row) -> Table
 }
 
 // A is 0, or T is not.
-fn shareable(amount: i64, total: u32) -> bool
+pub fn shareable(amount: i64, total: u32) -> bool
     ensures { λ r. ⌜ r ≡ (eqb (natAbs amount) 0 || ltb 0 total) ⌝ }
 {
     if amount == 0 {

@@ -60,7 +60,7 @@ fn put_three(block: &mut [i64], on: i64, off: i64, down: i64)
 }
 
 // A, the hour's three amounts added.
-fn amount_of(amounts: Amounts) -> Cents
+pub fn amount_of(amounts: Amounts) -> Cents
     requires { ⌜ AmountsRanged amounts ⌝ }
     ensures { λ r. ⌜ r .0 ≡ (amounts .on .0 +ℤ amounts .off .0) +ℤ amounts .down .0 ⌝ }
 {

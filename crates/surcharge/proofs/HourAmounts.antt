@@ -55,7 +55,7 @@ module _ (peak : ℕ) (day : Day) (body : List ℕ) (is : day ≡ dayOf peak (da
   unfolding dayOf
   hub-is = ap (λ d. d .hub .0) is
 
-  tier-is : day .tier ≡ dayTier body peak
+  pub tier-is : day .tier ≡ dayTier body peak
   unfolding dayOf
   tier-is = ap (λ d. d .tier) is
 

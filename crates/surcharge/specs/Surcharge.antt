@@ -13,7 +13,7 @@ use Rattle.exact.specs.Floor.{atLeastZero, atMostZero}
 use Rattle.words.specs.Word.{wordAt}
 use Rattle.body.specs.Layout.{flagOf, hubPriceA, hubPriceB, pointsOf, hourAt, requirementAt, mecAt, intervalsAt}
 use Rattle.price.specs.declared.PriceAnswer.{PriceAnswer}
-use Rattle.price.specs.Price.{averagePrice, answerPrice}
+use Rattle.price.specs.Price.{averagePrice, answerPrice, answerNumber}
 use Rattle.surcharge.specs.declared.Day.{Day}
 use Rattle.surcharge.specs.declared.Hour.{Hour}
 use Rattle.surcharge.specs.declared.Amounts.{Amounts}
@@ -122,6 +122,10 @@ needed flag peak dayTier tier = eqb flag 1 && cond peak (leb 2 dayTier && eqb ti
 
 unfoldable pub priceNeeded : List ℕ → (peak h : ℕ) → Bool
 priceNeeded body peak h = needed (flagOf body) (peakHour peak h) (dayTier body peak) (tierAt body h)
+
+-- "a needed price has no quantity under it"
+unfoldable pub priceMissing : List ℕ → (peak h : ℕ) → Bool
+priceMissing body peak h = priceNeeded body peak h && eqb (answerNumber (priceAnswerAt body h)) 11
 
 -- ---- the same as the structs of the code
 

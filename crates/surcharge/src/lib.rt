@@ -12,7 +12,7 @@ ghost use lib.ListN.{length};
 ghost use Rattle.words.specs.Word.{wordAt, signedOf};
 ghost use Rattle.body.specs.Layout.{hourAt};
 ghost use Rattle.body.specs.Sound.{Sound};
-ghost use Rattle.surcharge.specs.Surcharge.{tierOf, peakHour, quarters, surchargeOf, creditOf, onPeakOf, offPeakOf, downwardOf, needed, greaterPrice, upwardFrom, downwardFrom, hourOf, dayOf, amountsOf, dayTier, dayUpward, hubPrice, priceFrom, priceIf};
+ghost use Rattle.surcharge.specs.Surcharge.{tierOf, peakHour, quarters, surchargeOf, creditOf, onPeakOf, offPeakOf, downwardOf, needed, greaterPrice, upwardFrom, downwardFrom, hourOf, dayOf, amountsOf, dayTier, dayUpward, hubPrice, priceFrom, priceIf, priceMissing};
 ghost use Rattle.surcharge.specs.Ranges.{DayRanged, HourRanged, PairsRanged};
 
 // The facts of an area's day: day tier, M, the greater hub price P, persistent days d.
@@ -327,4 +327,24 @@ pub fn hour_amounts(peak: u32, day: Day, body: &[u8], h: usize, at: usize) -> Am
         off: off_peak(upward, tier, price),
         down,
     }
+}
+
+// Whether the price of hour h is needed and has no quantity under it.
+pub fn price_missing(peak: u32, day: Day, body: &[u8], h: usize, at: usize) -> bool
+    requires { ⌜ (Sound 32 (now body)) × ((h < 24) × (at ≡ hourAt (now body) h)) ⌝ }
+    requires { ⌜ day ≡ dayOf peak (day .days) (now body) ⌝ }
+    ensures { λ r. ⌜ r ≡ priceMissing (now (body .entry)) peak h ⌝ }
+{
+    let facts = hour_facts(true, body, at);
+    let needed = price_needed(
+        words::word(body, 1),
+        peak_hour(peak, h),
+        day.tier,
+        facts.tier,
+    );
+    if !needed {
+        return false;
+    }
+    let load = words::word(body, 5) as usize;
+    price::number(hour_price(body, load, at + 8)) == 11
 }

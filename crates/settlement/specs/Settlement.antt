@@ -43,9 +43,12 @@ hourRule peak days start body h =
     rule chargeable body peak days h else AmountWithoutDemand (start + demandsAt body h) then
     Accepted
 
+unfoldable pub hoursRule : (peak days start : ℕ) → List ℕ → Verdict
+hoursRule peak days start body = scan (hourRule peak days start body) 0 24
+
 module _ (days : List ℕ) (file : List ℕ) where
   unfoldable pub areaRule : ℕ → Verdict
-  areaRule k = scan (hourRule (peakOf file) (getD days k 0) (startAt file k) (bodyAt file k)) 0 24
+  areaRule k = hoursRule (peakOf file) (getD days k 0) (startAt file k) (bodyAt file k)
 
   unfoldable pub areasRule : Verdict
   areasRule = scan areaRule 0 (areasOf file)

@@ -10,7 +10,7 @@ ghost use Rattle.body.specs.Sound.{Sound};
 ghost use Rattle.dayfile.specs.File.{areasOf, peakOf};
 ghost use Rattle.surcharge.specs.Surcharge.{dayOf};
 ghost use Rattle.settlement.specs.SoundFile.{SoundFile};
-ghost use Rattle.settlement.specs.Settlement.{neededTo, statementTo, chargeable, hourRule};
+ghost use Rattle.settlement.specs.Settlement.{neededTo, statementTo, chargeable, hourRule, hoursRule, areasRule};
 
 // How many numbers the statement of n areas takes.
 fn numbers_needed(file: &[u8], n: usize) -> usize
@@ -97,6 +97,48 @@ fn check_hour(peak: u32, day: Day, start: usize, body: &[u8], h: usize, at: usiz
         return Verdict::AmountWithoutDemand {
             place: start + (at + 8 + 24 * load),
         };
+    }
+    Verdict::Accepted
+}
+
+// The first of 11 and 12 among the hours of an area.
+fn check_area(peak: u32, days: u32, start: usize, body: &[u8]) -> Verdict
+    requires { ⌜ (Sound 32 (now body)) × ((days ≤ 30) × (start < 4294967296)) ⌝ }
+    ensures { λ r. ⌜ r ≡ hoursRule peak days start (now (body .entry)) ⌝ }
+{
+    let day = surcharge::day_facts(peak, days, body);
+    let load = words::word(body, 5) as usize;
+    let count = words::word(body, 6) as usize;
+    let mut at = 7 + count;
+    let mut h: usize = 0;
+    while h < 24 {
+        let v = check_hour(peak, day, start, body, h, at);
+        if verdict::number(v) != 0 {
+            return v;
+        }
+        at += 8 + 24 * load + count;
+        h += 1;
+    }
+    Verdict::Accepted
+}
+
+// The first of 11 and 12 among areas and hours in order.
+fn check_areas(peak: u32, days: &[u32], file: &[u8], n: usize) -> Verdict
+    requires { ⌜ (SoundFile (now file)) × ((n ≡ areasOf (now file)) × (peak ≡ peakOf (now file))) ⌝ }
+    requires { ⌜ (n ≤ length (now days)) × ((k : ℕ) → k < n → getD (now days) k 0 ≤ 30) ⌝ }
+    ensures { λ r. ⌜ r ≡ areasRule (now (days .entry)) (now (file .entry)) ⌝ }
+{
+    let mut k: usize = 0;
+    while k < n {
+        let at = 4 + 3 * k;
+        let start = words::word(file, at + 1) as usize;
+        let from = 4 * start;
+        let end = from + 4 * (words::word(file, at + 2) as usize);
+        let v = check_area(peak, days[k], start, &file[from..end]);
+        if verdict::number(v) != 0 {
+            return v;
+        }
+        k += 1;
     }
     Verdict::Accepted
 }

@@ -1,2 +1,3 @@
 pub mod Areas
+pub mod Accepted
 pub mod Figures

@@ -53,11 +53,13 @@ module _ (days : List ℕ) (file : List ℕ) where
   unfoldable pub areasRule : Verdict
   areasRule = scan areaRule 0 (areasOf file)
 
-  -- the check's 1 to 10, then 13, then areas and hours in order
+  -- of a file that the check accepts: 13, then areas and hours in order
+  unfoldable pub acceptedRule : ℕ → Verdict
+  acceptedRule room = rule leb (numbersNeeded file) room else RoomTooShort (numbersNeeded file) then areasRule
+
+  -- the check's 1 to 10 before that
   unfoldable pub settleWith : ℕ → Verdict
-  settleWith room =
-      checkOf file
-      orElse (rule leb (numbersNeeded file) room else RoomTooShort (numbersNeeded file) then areasRule)
+  settleWith room = checkOf file orElse acceptedRule room
 
   -- the statement afterwards: a refusal leaves it as it was, numbers past the needed ones stay
   unfoldable pub afterWith : Verdict → List ℤ → List ℤ

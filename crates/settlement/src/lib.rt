@@ -4,13 +4,13 @@ use verdict::Verdict;
 ghost use mathlib.Core.Path.{_≡_};
 ghost use mathlib.Core.List.{_++_};
 ghost use Prim.Native.Nat.{ℕ, _+_, _*_, _≤_, _<_};
-ghost use lib.ListN.{length, drop, getD};
+ghost use lib.ListN.{length, take, drop, getD};
 ghost use Rattle.body.specs.Layout.{hourAt, runningDemand};
 ghost use Rattle.body.specs.Sound.{Sound};
 ghost use Rattle.dayfile.specs.File.{areasOf, peakOf};
 ghost use Rattle.surcharge.specs.Surcharge.{dayOf};
 ghost use Rattle.settlement.specs.SoundFile.{SoundFile};
-ghost use Rattle.settlement.specs.Settlement.{neededTo, statementTo, chargeable, hourRule, hoursRule, areasRule};
+ghost use Rattle.settlement.specs.Settlement.{neededTo, statementTo, chargeable, hourRule, hoursRule, areasRule, fileDays, acceptedRule, afterWith};
 
 // How many numbers the statement of n areas takes.
 fn numbers_needed(file: &[u8], n: usize) -> usize
@@ -141,4 +141,39 @@ fn check_areas(peak: u32, days: &[u32], file: &[u8], n: usize) -> Verdict
         k += 1;
     }
     Verdict::Accepted
+}
+
+// The file's own persistent days of n areas.
+fn file_days(file: &[u8], n: usize) -> [u32; 32]
+    requires { ⌜ (SoundFile (now file)) × (n ≡ areasOf (now file)) ⌝ }
+    ensures { λ r. ⌜ take n r ≡ fileDays (now (file .entry)) n ⌝ }
+{
+    let mut days = [0u32; 32];
+    let mut k: usize = 0;
+    while k < n {
+        let start = words::word(file, 4 + 3 * k + 1) as usize;
+        days[k] = words::word(file, start + 2);
+        k += 1;
+    }
+    days
+}
+
+// Past the check: 13, then 11 and 12, and where nothing is refused the statement. `days` has a d for each area.
+fn settle_accepted(days: &[u32], file: &[u8], statement: &mut [i64]) -> Verdict
+    requires { ⌜ (SoundFile (now file)) × ((areasOf (now file) ≤ length (now days)) × ((k : ℕ) → k < areasOf (now file) → getD (now days) k 0 ≤ 30)) ⌝ }
+    ensures { λ r. ⌜ r ≡ acceptedRule (now (days .entry)) (now (file .entry)) (length (now (statement .entry))) ⌝ }
+    ensures { λ r. ⌜ now (statement .exit) ≡ afterWith (now (days .entry)) (now (file .entry)) r (now (statement .entry)) ⌝ }
+{
+    let n = words::word(file, 2) as usize;
+    let peak = words::word(file, 3);
+    let needed = numbers_needed(file, n);
+    if statement.len() < needed {
+        return Verdict::RoomTooShort { needed };
+    }
+    let v = check_areas(peak, days, file, n);
+    if verdict::number(v) != 0 {
+        return v;
+    }
+    write_areas(peak, days, file, n, statement);
+    v
 }

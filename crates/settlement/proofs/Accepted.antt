@@ -5,9 +5,12 @@ use mathlib.Core.Logic.{⊎-elim}
 use mathlib.Core.Path.{_≡_, refl, sym, ap, _∙_}
 use native.Mathlib.Nat.{eq-or-lt-of-le, le-of-suc-le-suc, add-zero}
 use native.Mathlib.Omega.{arith}
-use lib.ListN.{length, getD, length-append, List·getD-append}
+use lib.ListN.{length, getD, drop, length-append, List·getD-append}
+use lib.IntN.{ℤ}
 use lib.Seq.{getD-append-add}
+use borrow.Author.Tests.{eq-eqb, ne-eqb}
 use Rattle.limits.specs.Editions.{editionOne}
+use Rattle.verdict.specs.declared.Verdict.{Verdict}
 use Rattle.verdict.specs.Verdict.{numberOf}
 use Rattle.body.specs.Layout.{daysOf}
 use Rattle.body.specs.Sound.{Sound}
@@ -15,7 +18,7 @@ use Rattle.dayfile.specs.File.{areasOf, bodyAt}
 use Rattle.dayfile.specs.Check.{checkOf, checkWithin}
 use Rattle.dayfile.proofs.Facts.{file-head, file-entry, file-sound}
 use Rattle.settlement.specs.SoundFile.{SoundFile}
-use Rattle.settlement.specs.Settlement.{fileDays}
+use Rattle.settlement.specs.Settlement.{numbersNeeded, statementTo, afterWith, fileDays}
 
 -- more load points may be allowed
 sound-more : (m n : ℕ) (body : List ℕ) → m ≤ n → Sound m body → Sound n body
@@ -74,3 +77,19 @@ days-small file s (suc n) h k p =
     (λ (e : k ≡ n). rw (e, days-last file n) (s .body n h .days))
     (λ (l : k < n). rw (List·getD-append (fileDays file n) _ 0 k (omega (arith, days-length file n))) (days-small file s n (omega arith) k l))
     (eq-or-lt-of-le (le-of-suc-le-suc p))
+
+-- the days of the call are a d for each area, none above 30
+pub days-fit : (file days : List ℕ) (n : ℕ) → SoundFile file → n ≡ areasOf file → days ≡ fileDays file n
+    → (areasOf file ≤ length days) × ((k : ℕ) → k < areasOf file → getD days k 0 ≤ 30)
+days-fit file days n s h e = rw (e, h) (omega (arith, days-length file (areasOf file)), days-small file s (areasOf file) (omega arith))
+
+-- ---- the statement after a refusal, and after none
+
+module _ (days file : List ℕ) (v : Verdict) (statement : List ℤ) where
+  pub refused : (numberOf v ≡ 0 → ⊥) → statement ≡ afterWith days file v statement
+  unfolding afterWith
+  refused h = rw (ne-eqb (numberOf v) 0 h)
+
+  pub settled : numberOf v ≡ 0 → statementTo file days (areasOf file) ++ drop (numbersNeeded file) statement ≡ afterWith days file v statement
+  unfolding afterWith
+  settled h = rw (eq-eqb (numberOf v) 0 h)

@@ -10,7 +10,7 @@ ghost use Rattle.body.specs.Sound.{Sound};
 ghost use Rattle.dayfile.specs.File.{areasOf, peakOf};
 ghost use Rattle.surcharge.specs.Surcharge.{dayOf};
 ghost use Rattle.settlement.specs.SoundFile.{SoundFile};
-ghost use Rattle.settlement.specs.Settlement.{neededTo, statementTo, chargeable, hourRule, hoursRule, areasRule, fileDays, acceptedRule, afterWith};
+ghost use Rattle.settlement.specs.Settlement.{neededTo, statementTo, chargeable, hourRule, hoursRule, areasRule, fileDays, acceptedRule, afterWith, settleOf, after};
 
 // How many numbers the statement of n areas takes.
 fn numbers_needed(file: &[u8], n: usize) -> usize
@@ -176,4 +176,19 @@ fn settle_accepted(days: &[u32], file: &[u8], statement: &mut [i64]) -> Verdict
     }
     write_areas(peak, days, file, n, statement);
     v
+}
+
+// Checks the whole file, then settles it into `statement`: area after area, 24 hours of 3 + K numbers each. A
+// refusal leaves the statement as it was.
+pub fn settle(file: &[u8], statement: &mut [i64]) -> Verdict
+    ensures { λ r. ⌜ r ≡ settleOf (now (file .entry)) (length (now (statement .entry))) ⌝ }
+    ensures { λ r. ⌜ now (statement .exit) ≡ after r (now (file .entry)) (now (statement .entry)) ⌝ }
+{
+    let v = dayfile::check(file);
+    if verdict::number(v) != 0 {
+        return v;
+    }
+    let n = words::word(file, 2) as usize;
+    let days = file_days(file, n);
+    settle_accepted(&days[..n], file, statement)
 }

@@ -1,29 +1,17 @@
 use borrow.Author.Needs.{needs}
 use denote.Ref.{now}
 use Prim.Native.Nat.{ℕ, _+_, _*_, _≤_, _<_}
-use mathlib.Core.List.{List, _++_}
 use mathlib.Core.Path.{_≡_, refl, sym, ap, ap₂, _∙_}
 use native.Mathlib.Omega.{arith}
-use lib.IntN.{ℤ}
-use lib.ListN.{length, getD, drop}
-use borrow.Author.Tests.{eq-eqb, ne-eqb, le-leb, lt-leb}
-use Rattle.verdict.specs.declared.Verdict.{Verdict}
+use lib.ListN.{length, getD}
+use borrow.Author.Tests.{le-leb, lt-leb}
 use Rattle.verdict.specs.declared.Verdict.the-variants.{RoomTooShort}
 use Rattle.verdict.specs.Verdict.{numberOf}
 use Rattle.dayfile.specs.File.{areasOf, peakOf}
-use Rattle.settlement.specs.Settlement.{neededTo, numbersNeeded, statementTo, areasRule, acceptedRule, afterWith}
+use Rattle.settlement.specs.Settlement.{neededTo, numbersNeeded, areasRule, acceptedRule}
+use Rattle.settlement.proofs.Accepted.{refused, settled}
 use Rattle.settlement.proofs.settle_accepted.Statement.{statement}
 use Rattle.settlement.proofs.settle_accepted.Tie as tie
-
--- the statement after a refusal, and after none
-module _ (days file : List ℕ) (v : Verdict) (statement : List ℤ) where
-  refused : (numberOf v ≡ 0 → ⊥) → statement ≡ afterWith days file v statement
-  unfolding afterWith
-  refused h = rw (ne-eqb (numberOf v) 0 h)
-
-  settled : numberOf v ≡ 0 → statementTo file days (areasOf file) ++ drop (numbersNeeded file) statement ≡ afterWith days file v statement
-  unfolding afterWith
-  settled h = rw (eq-eqb (numberOf v) 0 h)
 
 needed-is : (c : tie.After-numbers-needed) → c .numbers-needed .result ≡ numbersNeeded (now (c .before .before .before .before .before .args .file))
 needed-is c = let f = now (c .before .before .before .before .before .args .file) in c .numbers-needed .ensures ∙ ap (neededTo f) (c .before .before .word .ensures)

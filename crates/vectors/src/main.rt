@@ -14,6 +14,13 @@ fn payload_room() -> [u8; 66000]
     [0; 66000]
 }
 
+// Room for a statement, in numbers: more than a file of eight areas needs.
+fn statement_room() -> [i64; 8192]
+    ensures { λ r. ⌜ 8192 ≡ length r ⌝ }
+{
+    [0; 8192]
+}
+
 fn bad_case() -> bool {
     show::text(b"bad case\n");
     false
@@ -154,10 +161,30 @@ fn share(payload: &[u8], x: usize) -> bool {
     true
 }
 
+fn settle_into(file: &[u8], statement: &mut [i64])
+    requires { ⌜ length (now statement) ≤ 8192 ⌝ }
+{
+    fill_lent(statement);
+    show_verdict(settlement::settle(file, statement));
+    show_numbers(statement);
+}
+
+fn settle(file: &[u8], x: usize) -> bool {
+    if 8192 < x {
+        return bad_case();
+    }
+    let mut room = statement_room();
+    settle_into(file, &mut room[..x]);
+    true
+}
+
 fn call(number: u32, x: u32, payload: &[u8]) -> bool {
     if number == 1 {
         check(payload);
         return true;
+    }
+    if number == 2 {
+        return settle(payload, x as usize);
     }
     if number == 3 {
         price(payload);

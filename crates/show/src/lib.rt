@@ -28,10 +28,25 @@ pub fn signed(z: i64) -> bool {
     unsigned(magnitude(z))
 }
 
+pub fn signed_word(z: i32) -> bool {
+    signed(z as i64)
+}
+
 pub fn space() -> bool {
     io::write_all(STDOUT_FILENO, b" ")
 }
 
 pub fn end() -> bool {
     io::write_all(STDOUT_FILENO, b"\n")
+}
+
+// Each number after a space, and the end of the line.
+pub fn numbers(numbers: &[i64]) {
+    let mut i: usize = 0;
+    while i < numbers.len() {
+        space();
+        signed(numbers[i]);
+        i += 1;
+    }
+    end();
 }

@@ -68,7 +68,7 @@ fn price(pairs: &[u8]) {
     show::space();
     show::unsigned(price::place(answer) as u64);
     show::space();
-    show::signed(price::price_of(answer) as i64);
+    show::signed_word(price::price_of(answer));
     show::end();
 }
 
@@ -87,16 +87,6 @@ fn fill_lent(numbers: &mut [i64])
         numbers[i] = lent(i);
         i += 1;
     }
-}
-
-fn show_numbers(numbers: &[i64]) {
-    let mut i: usize = 0;
-    while i < numbers.len() {
-        show::space();
-        show::signed(numbers[i]);
-        i += 1;
-    }
-    show::end();
 }
 
 // 64 bits as a signed number.
@@ -140,7 +130,7 @@ fn share_into(amount: i64, rows: [Row; 70], n: usize, charges: &mut [i64])
 {
     fill_lent(charges);
     show_verdict(shares::share_array(amount, rows, n, charges));
-    show_numbers(charges);
+    show::numbers(charges);
 }
 
 fn share(payload: &[u8], x: usize) -> bool {
@@ -166,7 +156,7 @@ fn settle_into(file: &[u8], statement: &mut [i64])
 {
     fill_lent(statement);
     show_verdict(settlement::settle(file, statement));
-    show_numbers(statement);
+    show::numbers(statement);
 }
 
 fn settle(file: &[u8], x: usize) -> bool {

@@ -1,8 +1,8 @@
 use borrow.Author.Needs.{needs}
 use Prim.Native.Nat.{_-_, _≤_}
 use lib.ListN.{length}
-use Rattle.vectors.proofs.show_numbers.Statement.{statement}
-use Rattle.vectors.proofs.show_numbers.Tie as tie
+use Rattle.show.proofs.numbers.Statement.{statement}
+use Rattle.show.proofs.numbers.Tie as tie
 
 abbrev Inv-loop : tie.InvT-loop
 Inv-loop numbers i₀ i =
@@ -11,8 +11,8 @@ Inv-loop numbers i₀ i =
 abbrev μ-loop : tie.MeasureT-loop
 μ-loop numbers i₀ i = length numbers - i
 
-pub show-numbers-spec : {M : Type 1} → statement M
-show-numbers-spec =
+pub numbers-spec : {M : Type 1} → statement M
+numbers-spec =
     tie.close
     (tie.spec
     Inv-loop

@@ -1,0 +1,31 @@
+use borrow.Author.Needs.{needs}
+use Prim.Native.Nat.{_-_, _≤_}
+use mathlib.Core.Path.{_≡_}
+use lib.ListN.{length}
+use Rattle.figures.proofs.put_coordinators.Statement.{statement}
+use Rattle.figures.proofs.put_coordinators.Tie as tie
+
+abbrev Inv-loop : tie.InvT-loop
+Inv-loop day₀ i₀ day i =
+    (i ≤ 64) × (length day ≡ length day₀)
+
+abbrev μ-loop : tie.MeasureT-loop
+μ-loop day₀ i₀ day i = 64 - i
+
+pub put-coordinators-spec : {M : Type 1} → statement M
+put-coordinators-spec =
+    tie.close
+    (tie.spec
+    Inv-loop
+    μ-loop
+    (λ c. search needs)
+    (λ c. search needs)
+    (λ c. search needs)
+    (λ c. search needs)
+    (λ c. search needs)
+    (λ c κs. search needs)
+    (λ c. search needs)
+    (λ c. search needs)
+    (λ c. search needs)
+    (λ c. search needs)
+    (λ c. search needs))

@@ -1,0 +1,339 @@
+// Runs the figures of document 01 through the public calls, and prints a line for each: what is asked, then what the call
+// gives. Amounts are cents, prices ten-thousandths of a dollar. A day here is one area of kind 0 with one coordinator: an
+// hour is 33 words, the first hour's begin at word 15, and four numbers of the statement.
+use shares::Row;
+use verdict::Verdict;
+
+// Words of an hour.
+const UPWARD: u8 = 0;
+
+const DOWNWARD: u8 = 4;
+
+const REQUIREMENT: u8 = 6;
+
+const MEC: u8 = 7;
+
+const QUANTITY: u8 = 8;
+
+const PRICE: u8 = 9;
+
+const PEAK_HOURS: u32 = 4194240;
+
+const MISSING: u32 = 2147483648;
+
+// The word that says -n.
+fn minus(n: u32) -> u32 {
+    std::num::wrapping_sub_u32(0, n)
+}
+
+// A word past the end is not written.
+fn put(bytes: &mut [u8], word: usize, value: u32) {
+    if bytes.len() / 4 <= word {
+        return;
+    }
+    let at = 4 * word;
+    bytes[at] = (value % 256) as u8;
+    bytes[at + 1] = (value / 256 % 256) as u8;
+    bytes[at + 2] = (value / 65536 % 256) as u8;
+    bytes[at + 3] = (value / 16777216) as u8;
+}
+
+// Hours are counted from 0.
+fn set(day: &mut [u8], hour: u8, word: u8, value: u32) {
+    put(day, 15 + 33 * (hour as usize) + (word as usize), value);
+}
+
+fn put_head(day: &mut [u8], peak: u32, words: u32) {
+    put(day, 0, 1);
+    put(day, 1, 20260504);
+    put(day, 2, 1);
+    put(day, 3, peak);
+    put(day, 4, 7);
+    put(day, 5, 7);
+    put(day, 6, words);
+}
+
+fn put_area(day: &mut [u8], days: u32, hub_a: u32, hub_b: u32) {
+    put(day, 8, 1);
+    put(day, 9, days);
+    put(day, 10, hub_a);
+    put(day, 11, hub_b);
+    put(day, 12, 1);
+    put(day, 13, 1);
+    put(day, 14, 12);
+}
+
+fn put_missing(day: &mut [u8], hour: u8) {
+    let mut interval: usize = 0;
+    while interval < 12 {
+        put(day, 24 + 33 * (hour as usize) + 2 * interval, MISSING);
+        interval += 1;
+    }
+}
+
+// A day without deficiencies, every price missing.
+fn put_day(day: &mut [u8], peak: u32, days: u32, hub_a: u32, hub_b: u32) {
+    put_head(day, peak, 800);
+    put_area(day, days, hub_a, hub_b);
+    let mut hour: u8 = 0;
+    while hour < 24 {
+        put_missing(day, hour);
+        hour += 1;
+    }
+}
+
+fn put_price(day: &mut [u8], hour: u8, price: u32) {
+    set(day, hour, QUANTITY, 1000);
+    set(day, hour, PRICE, price);
+}
+
+fn put_deficiency(day: &mut [u8], hour: u8, upward: u32, requirement: u32) {
+    set(day, hour, UPWARD, upward);
+    set(day, hour, REQUIREMENT, requirement);
+}
+
+fn show_verdict(answer: Verdict) {
+    show::space();
+    show::unsigned(verdict::number(answer) as u64);
+    show::space();
+    show::unsigned(verdict::place(answer) as u64);
+}
+
+fn show_hour(statement: &[i64], hour: u8) {
+    let from = 4 * (hour as usize);
+    if statement.len() < from + 4 {
+        return;
+    }
+    show::numbers(&statement[from..from + 4]);
+}
+
+// The number and place of the settled day, and the hour's on-peak, off-peak and downward amount and charge.
+fn settled(label: &[u8], day: &[u8], hour: u8) {
+    let mut statement = [0i64; 96];
+    let answer = settlement::settle(day, &mut statement);
+    show::text(label);
+    show_verdict(answer);
+    show_hour(&statement, hour);
+}
+
+// An off-peak hour at $1, where a tier of 1 costs nothing, 2 costs 1.25 and 3 costs 2 dollars a MWh.
+fn tier(label: &[u8], upward: u32, requirement: u32) {
+    let mut day = [0u8; 3228];
+    put_day(&mut day, 0, 0, 0, 0);
+    put_deficiency(&mut day, 0, upward, requirement);
+    put_price(&mut day, 0, 10000);
+    settled(label, &day, 0);
+}
+
+fn tiers() {
+    tier(b"T1 U 10.000, Q 600:", 10000, 600000);
+    tier(b"T1 U 10.001, Q 600:", 10001, 600000);
+    tier(b"T2 U 300.000, Q 600:", 300000, 600000);
+    tier(b"T2 U 300.001, Q 600:", 300001, 600000);
+    tier(b"T3 U 20.000, Q 2,000:", 20000, 2000000);
+    tier(b"T3 U 20.001, Q 2,000:", 20001, 2000000);
+    tier(b"T4 U 8.000, Q 10:", 8000, 10000);
+    tier(b"T4 U 10.001, Q 10:", 10001, 10000);
+    tier(b"T5 U 10.000, Q 1,000.050:", 10000, 1000050);
+    tier(b"T5 U 10.001, Q 1,000.050:", 10001, 1000050);
+}
+
+// Hubs at 80.00 and 95.50, d 3, and M = 120 MW in the hour ending 8, of tier 2. The hour ending 9 is of tier 1.
+fn put_failed_day(day: &mut [u8]) {
+    put_day(day, PEAK_HOURS, 3, 8000, 9550);
+    put_deficiency(day, 7, 120000, 1000000);
+    put_deficiency(day, 8, 5000, 1000000);
+    let mut hour: u8 = 6;
+    while hour < 22 {
+        put_price(day, hour, 600000);
+        hour += 1;
+    }
+}
+
+fn passed(label: &[u8], price: u32) {
+    let mut day = [0u8; 3228];
+    put_failed_day(&mut day);
+    set(&mut day, 9, PRICE, price);
+    settled(label, &day, 9);
+}
+
+fn on_peak() {
+    let mut day = [0u8; 3228];
+    put_failed_day(&mut day);
+    settled(
+        b"T6 failed hour (with d added to the multiplier it would be 1466880):",
+        &day,
+        7,
+    );
+    settled(b"T6 hour of tier 1:", &day, 8);
+    passed(b"T7 passed hour at 60:", 600000);
+    passed(b"T7 passed hour at 130:", 1300000);
+    passed(b"T7 passed hour at -5:", minus(50000));
+}
+
+fn day_of_tier_1() {
+    let mut day = [0u8; 3228];
+    put_failed_day(&mut day);
+    set(&mut day, 7, UPWARD, 5000);
+    set(&mut day, 9, PRICE, minus(50000));
+    settled(
+        b"Day of tier 1, passed hour at -5 (no credit out of nothing):",
+        &day,
+        9,
+    );
+}
+
+// A day that fails in every hour: hours ending 7 to 22 are on-peak.
+fn peak_hours() {
+    let mut day = [0u8; 3228];
+    put_failed_day(&mut day);
+    put_deficiency(&mut day, 5, 120000, 1000000);
+    put_price(&mut day, 5, 10000);
+    put_deficiency(&mut day, 22, 120000, 1000000);
+    put_price(&mut day, 22, 10000);
+    settled(b"Hour ending 6:", &day, 5);
+    settled(b"Hour ending 7:", &day, 6);
+    settled(b"Hour ending 22:", &day, 21);
+    settled(b"Hour ending 23:", &day, 22);
+}
+
+fn downward(label: &[u8], deficiency: u32, mec: u32) {
+    let mut day = [0u8; 3228];
+    put_day(&mut day, 0, 0, 0, 0);
+    set(&mut day, 0, DOWNWARD, deficiency);
+    set(&mut day, 0, MEC, mec);
+    settled(label, &day, 0);
+}
+
+fn downwards() {
+    downward(b"T8 W 10.000 at MEC -100:", 10000, minus(1000000));
+    downward(b"T8 W 10.001 at MEC -100:", 10001, minus(1000000));
+    downward(
+        b"T9 W 12.500 at MEC -0.01 (R of -12.5 is -13):",
+        12500,
+        minus(100),
+    );
+    downward(b"T9 W 12.500 at MEC 40:", 12500, 400000);
+}
+
+fn put_last_ten(pairs: &mut [u8], quantity: u32, price: u32) {
+    let mut interval: usize = 2;
+    while interval < 12 {
+        put(pairs, 2 * interval, quantity);
+        put(pairs, 2 * interval + 1, price);
+        interval += 1;
+    }
+}
+
+// 100 MWh at 30 and 300 at 50, and ten more intervals of the given quantity and price.
+fn averaged(label: &[u8], quantity: u32, price: u32) {
+    let mut pairs = [0u8; 96];
+    put(&mut pairs, 0, 100000);
+    put(&mut pairs, 1, 300000);
+    put(&mut pairs, 2, 300000);
+    put(&mut pairs, 3, 500000);
+    put_last_ten(&mut pairs, quantity, price);
+    let answer = price::load_weighted(&pairs);
+    show::text(label);
+    show::space();
+    show::signed_word(price::price_of(answer));
+    show::end();
+}
+
+fn averages() {
+    averaged(b"T10 ten missing:", 0, MISSING);
+    averaged(b"T10 ten of 100 MWh missing:", 100000, MISSING);
+    averaged(
+        b"T10 ten of 100 MWh at 0 (what filling with 0 would give):",
+        100000,
+        0,
+    );
+}
+
+fn shared(label: &[u8], amount: i64, demands: [u32; 3], n: usize) {
+    if 3 < n {
+        return;
+    }
+    let none = Row {
+        coordinator: 0,
+        demand: 0,
+    };
+    let mut rows = [none; 70];
+    rows[0] = Row {
+        coordinator: 1,
+        demand: demands[0],
+    };
+    rows[1] = Row {
+        coordinator: 2,
+        demand: demands[1],
+    };
+    rows[2] = Row {
+        coordinator: 3,
+        demand: demands[2],
+    };
+    let mut charges = [0i64; 3];
+    let answer = shares::share_array(amount, rows, n, &mut charges);
+    show::text(label);
+    show_verdict(answer);
+    show::numbers(&charges[..n]);
+}
+
+fn sharing() {
+    shared(b"T11 100 cents over 1, 1, 1:", 100, [1, 1, 1], 3);
+    shared(b"T11 the first two merged:", 100, [2, 1, 0], 2);
+    shared(b"T11 -100 cents over 1, 1, 1:", -100, [1, 1, 1], 3);
+    shared(b"T12 1 cent over 1, 0, 1:", 1, [1, 0, 1], 3);
+    shared(b"-25 cents over 1, 1:", -25, [1, 1, 0], 2);
+    shared(b"10,000,000,000 cents:", 10000000000, [1, 1, 0], 2);
+    shared(b"10,000,000,001 cents:", 10000000001, [1, 1, 0], 2);
+    shared(b"-10,000,000,001 cents:", -10000000001, [1, 1, 0], 2);
+}
+
+fn case_p() {
+    let mut day = [0u8; 3228];
+    put_day(&mut day, PEAK_HOURS, 0, 0, 0);
+    put_deficiency(&mut day, 2, 40000, 60000);
+    put_price(&mut day, 2, 250000);
+    settled(b"Case P, 807 words, hour ending 3:", &day, 2);
+    show::text(b"Area 7 of case P, in bytes: ");
+    show::unsigned(dayfile::body_of(&day, 7).len() as u64);
+    show::text(b"; area 8: ");
+    show::unsigned(dayfile::body_of(&day, 8).len() as u64);
+    show::end();
+}
+
+fn put_coordinators(day: &mut [u8]) {
+    let mut i: u8 = 0;
+    while i < 64 {
+        put(day, 14 + (i as usize), 1 + (i as u32));
+        i += 1;
+    }
+}
+
+// The longest body: two load points and 64 coordinators.
+fn longest_body(label: &[u8], words: u32) {
+    let mut day = [0u8; 11832];
+    put_head(&mut day, 0, words);
+    put_area(&mut day, 0, 0, 0);
+    put(&mut day, 7, 1);
+    put(&mut day, 12, 2);
+    put(&mut day, 13, 64);
+    put_coordinators(&mut day);
+    let answer = dayfile::check(&day);
+    show::text(label);
+    show_verdict(answer);
+    show::end();
+}
+
+fn main() {
+    tiers();
+    on_peak();
+    day_of_tier_1();
+    peak_hours();
+    downwards();
+    averages();
+    sharing();
+    case_p();
+    longest_body(b"A body of 2,951 words:", 2951);
+    longest_body(b"Its length said to be 2,952:", 2952);
+}

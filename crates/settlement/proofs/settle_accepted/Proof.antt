@@ -54,7 +54,10 @@ write-areas-requires : tie.Need-write-areas-requires
 write-areas-requires c κs =
     let s = c .before .before .before .before .before .before .before .before .before .before in
     let e = c .before .before .before .before .before .before .before .word .ensures in
-    rw e ((s .pre .0, (refl, c .before .before .before .before .before .before .word2 .ensures)), ((s .pre .1 .0, s .pre .1 .1), omega (arith, needed-is (c .before .before .before .before .before), c .before .before .before .before .if1 .left)))
+    let room = c .before .before .before .before .if1 .left in (
+      (s .pre .0, (omega (arith, e), c .before .before .before .before .before .before .word2 .ensures)),
+      ((omega (arith, e, s .pre .1 .0), λ k h. s .pre .1 .1 k (omega (arith, e, h))), omega (arith, c .before .before .before .before .before .numbers-needed .ensures, room)),
+    )
 
 returns-3 : tie.Need-returns-3
 returns-3 c =

@@ -30,6 +30,9 @@ below c = omega (arith, c .before .before .before .before .pre .0 .1 .0, c .loop
 entry : (c : tie.In-loop Inv-loop μ-loop) → 4 * (4 + 3 * c .before .loop .k) + 12 ≤ length (now (c .before .before .before .before .args .file))
 entry c = let s = c .before .before .before .before in omega (arith, s .pre .0 .0 .room, below c)
 
+inside : (c : tie.After-word2 Inv-loop μ-loop) → 4 * c .before .word .result + 4 * c .word2 .result ≤ length (now (c .before .before .before .before .before .before .args .file))
+inside c = let s = c .before .before .before .before .before .before in omega (arith, c .before .word .ensures, c .word2 .ensures, s .pre .0 .0 .inside (c .before .before .before .loop .k) (below (c .before .before)))
+
 -- the part of the file that is handed on is the body of area k
 part : (c : tie.After-word2 Inv-loop μ-loop) → let f = now (c .before .before .before .before .before .before .args .file) in let a = 4 * c .before .word .result in let m = 4 * c .word2 .result in take (a + m - a) (drop a f) ≡ bodyAt f (c .before .before .before .loop .k)
 part c =
@@ -37,9 +40,6 @@ part c =
     let m = 4 * c .word2 .result in
     let p : a + m - a ≡ m = omega arith in
     cc
-
-inside : (c : tie.After-word2 Inv-loop μ-loop) → 4 * c .before .word .result + 4 * c .word2 .result ≤ length (now (c .before .before .before .before .before .before .args .file))
-inside c = let s = c .before .before .before .before .before .before in omega (arith, c .before .word .ensures, c .word2 .ensures, s .pre .0 .0 .inside (c .before .before .before .loop .k) (below (c .before .before)))
 
 sound : (c : tie.After-word2 Inv-loop μ-loop) → Sound 32 (bodyAt (now (c .before .before .before .before .before .before .args .file)) (c .before .before .before .loop .k))
 sound c = c .before .before .before .before .before .before .pre .0 .0 .body (c .before .before .before .loop .k) (below (c .before .before))

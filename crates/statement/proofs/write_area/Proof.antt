@@ -82,7 +82,7 @@ write-hour-requires c κs =
     let s = c .before .before .before .before .before .before .before in
     let l = c .before .before .loop in
     let d = c .before .before .before .before .before in
-    ((s .pre .0 .0, (c .before .loop-test .taken, l .inv .1)), ((day-is d, rw (days-are d) (s .pre .0 .1)), simp (length-take, length-drop) (omega (arith, room (c .before)))))
+    ((s .pre .0 .0, (omega arith, l .inv .1)), ((day-is d, rw (days-are d) (s .pre .0 .1)), simp (length-take, length-drop) (omega (arith, room (c .before)))))
 
 add-at-2 : tie.Need-add-at-2 Inv-loop μ-loop
 add-at-2 c = let r = inside (c .before .before .before) in omega arith

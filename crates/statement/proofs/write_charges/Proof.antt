@@ -4,7 +4,7 @@ use Prim.Native.Nat.{_≤_}
 use mathlib.Core.List.{[], _∷_, _++_}
 use mathlib.Core.Path.{_≡_, sym, ap, ap₂, _∙_}
 use native.Mathlib.Omega.{arith}
-use lib.ListN.{length, drop}
+use lib.ListN.{length, drop, set}
 use lib.Seq.{sets-eq}
 use mir.Syntax.{w64}
 use mir.ValLaws.{toZ-ofZ}
@@ -19,8 +19,9 @@ returns c =
     let s = c .before .before in
     let a = s .args in
     let one = s .pre .1 .1 (c .if1 .taken) in
-    rw (toZ-ofZ w64 _ (s .fits .amount), charges-one (a .kind) (a .amount) (now (a .body)) (a .from) (a .count) (c .if1 .taken), one)
-    (sets-eq (a .amount ∷ []) (now (a .charges)) 0 (omega arith))
+    let xs = now (a .charges) in
+    rw (charges-one (a .kind) (a .amount) (now (a .body)) (a .from) (a .count) (c .if1 .taken), one)
+    (ap (λ v. set xs 0 v) (toZ-ofZ w64 (a .amount) (s .fits .amount)) ∙ sets-eq (a .amount ∷ []) xs 0 (omega arith))
 
 slice-aggregate-share-demands : tie.Need-slice-aggregate-share-demands
 slice-aggregate-share-demands c = let a = c .before .before .before .before .args in sym (ap length (c .before .demands-from .ensures) ∙ demand-length (now (a .body)) (a .from) (a .count))

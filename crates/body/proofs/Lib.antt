@@ -1,3 +1,4 @@
 pub mod Rules
 pub mod HourPlaces
 pub mod Facts
+pub mod Places

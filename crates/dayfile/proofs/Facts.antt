@@ -15,9 +15,10 @@ use Rattle.verdict.specs.Verdict.{numberOf}
 use Rattle.verdict.specs.First.{_orElse_}
 use Rattle.verdict.proofs.First.{kept, both, or-first, or-second, scan-each}
 use Rattle.exact.proofs.Lending.{part-length}
+use Rattle.body.specs.Layout.{kindOf}
 use Rattle.body.specs.Check.{bodyRule}
 use Rattle.body.specs.Sound.{Sound}
-use Rattle.body.proofs.Facts.{sound}
+use Rattle.body.proofs.Facts.{sound, one-ciso}
 use Rattle.dayfile.specs.File.{numberAt, startAt, sizeAt, numberBefore, dueAt, bodyAt, cisoBefore}
 use Rattle.dayfile.specs.Check.{headRule, headOf, contentsRule, bodiesRule, bodyOf, checkWithin}
 use Rattle.dayfile.proofs.Entries.{Entry, entry}
@@ -90,6 +91,10 @@ module _ (limits : Limits) (file : List ℕ) (accepted : numberOf (checkWithin l
 
     pub file-sound : Sound (limits .points) (bodyAt file k)
     file-sound = sound (startAt file k) (bodyAt file k) limits (cisoBefore file k) file-body
+
+    -- of the areas up to this one at most one is CISO
+    pub file-one-ciso : cisoBefore file k + kindOf (bodyAt file k) ≤ 1
+    file-one-ciso = one-ciso (startAt file k) (bodyAt file k) limits (cisoBefore file k) file-body
 
     -- a body has the bytes that its entry says
     pub body-length : length (bodyAt file k) ≡ 4 * sizeAt file k

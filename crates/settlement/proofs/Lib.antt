@@ -1,3 +1,4 @@
 pub mod Areas
 pub mod Accepted
 pub mod Figures
+pub mod Places

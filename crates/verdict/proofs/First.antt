@@ -9,7 +9,7 @@ use lib.Dec.{eqb}
 use borrow.Author.Tests.{eq-eqb, ne-eqb, eqb-true, eqb-false}
 use Rattle.verdict.specs.declared.Verdict.{Verdict}
 use Rattle.verdict.specs.declared.Verdict.the-variants.{Accepted}
-use Rattle.verdict.specs.Verdict.{numberOf}
+use Rattle.verdict.specs.Verdict.{numberOf, placeOf}
 use Rattle.verdict.specs.First.{rule_else_then_, _orElse_, scan}
 
 -- ---- what an acceptance tells
@@ -54,6 +54,41 @@ scan-all part k (suc n) z (suc i) h =
 -- every part accepts
 pub scan-each : (part : ℕ → Verdict) (n : ℕ) → numberOf (scan part 0 n) ≡ 0 → (i : ℕ) → i < n → numberOf (part i) ≡ 0
 scan-each part n z i h = subst (λ (j : ℕ). numberOf (part j) ≡ 0) (zero-add i) (scan-all part 0 n z i h)
+
+-- ---- a bound that every place in sight keeps, the answer's place keeps
+
+pub record PlaceWithin (most : ℕ) (verdict : Verdict) : Type 0 where
+  pub bound : placeOf verdict ≤ most
+
+module _ (most : ℕ) where
+  pub accepted-within : PlaceWithin most Accepted
+  accepted-within = record { bound = omega arith }
+
+  -- the rest is judged where the test holds
+  pub guard-within : (test : Bool) (refusal rest : Verdict) → placeOf refusal ≤ most → (test ≡ true → PlaceWithin most rest)
+      → PlaceWithin most (rule test else refusal then rest)
+  guard-within true refusal rest a b = b refl
+  guard-within false refusal rest a b = record { bound = a }
+
+  pub rule-within : (test : Bool) (refusal rest : Verdict) → placeOf refusal ≤ most → PlaceWithin most rest
+      → PlaceWithin most (rule test else refusal then rest)
+  rule-within test refusal rest a b = guard-within test refusal rest a (λ _. b)
+
+  pub or-within : (first second : Verdict) → PlaceWithin most first → (numberOf first ≡ 0 → PlaceWithin most second)
+      → PlaceWithin most (first orElse second)
+  or-within first second a b = by (eqb (numberOf first) 0) refl
+    where
+      by : (t : Bool) → eqb (numberOf first) 0 ≡ t → PlaceWithin most (first orElse second)
+      by true e = rw (or-next first second (eqb-true _ _ e)) (b (eqb-true _ _ e))
+      by false e = rw (or-stop first second (eqb-false _ _ e)) a
+
+  scan-within-from : (part : ℕ → Verdict) (k n : ℕ) → ((i : ℕ) → i < k + n → PlaceWithin most (part i)) → PlaceWithin most (scan part k n)
+  unfolding scan
+  scan-within-from part k zero each = accepted-within
+  scan-within-from part k (suc n) each = or-within _ _ (each k (omega arith)) (λ _. scan-within-from part (suc k) n (λ i p. each i (omega arith)))
+
+  pub scan-within : (part : ℕ → Verdict) (n : ℕ) → ((i : ℕ) → i < n → PlaceWithin most (part i)) → PlaceWithin most (scan part 0 n)
+  scan-within part n each = scan-within-from part 0 n (λ i p. each i (omega arith))
 
 -- ---- a loop over k from 0 to n, in a form that `search` can use: what each law asks stands in the fields of the place's record.
 -- v is the turn's answer, r its number, and `whole` the answer of the whole loop.

@@ -2,3 +2,4 @@ pub mod Areas
 pub mod Accepted
 pub mod Figures
 pub mod Places
+pub mod Room

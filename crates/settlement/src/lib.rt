@@ -13,7 +13,7 @@ ghost use Rattle.settlement.specs.SoundFile.{SoundFile};
 ghost use Rattle.settlement.specs.Settlement.{neededTo, statementTo, chargeable, hourRule, hoursRule, areasRule, fileDays, acceptedRule, afterWith, settleOf, after};
 
 // How many numbers the statement of n areas takes.
-fn numbers_needed(file: &[u8], n: usize) -> usize
+pub fn numbers_needed(file: &[u8], n: usize) -> usize
     requires { ⌜ (SoundFile (now file)) × (n ≡ areasOf (now file)) ⌝ }
     ensures { λ r. ⌜ r ≡ neededTo (now (file .entry)) n ⌝ }
 {

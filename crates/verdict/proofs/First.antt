@@ -43,6 +43,14 @@ module _ (first second : Verdict) where
   pub or-second : numberOf (first orElse second) ≡ 0 → numberOf second ≡ 0
   or-second z = ap numberOf (sym (or-next (or-first z))) ∙ z
 
+-- what stands second is looked at only where the first accepts
+pub or-same : (first second other : Verdict) → (numberOf first ≡ 0 → second ≡ other) → (first orElse second) ≡ (first orElse other)
+or-same first second other e = by (eqb (numberOf first) 0) refl
+  where
+    by : (t : Bool) → eqb (numberOf first) 0 ≡ t → (first orElse second) ≡ (first orElse other)
+    by true z = ap (λ v. first orElse v) (e (eqb-true _ _ z))
+    by false z = or-stop first second (eqb-false _ _ z) ∙ sym (or-stop first other (eqb-false _ _ z))
+
 scan-all : (part : ℕ → Verdict) (k n : ℕ) → numberOf (scan part k n) ≡ 0 → (i : ℕ) → i < n → numberOf (part (k + i)) ≡ 0
 unfolding scan
 scan-all part k zero z i h = absurd (omega arith)

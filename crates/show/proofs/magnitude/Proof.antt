@@ -1,36 +1,24 @@
-use Prim.Native.Nat.{ℕ, suc, _+_, _<_}
-use mathlib.Core.Bool.{true, false, true≢false}
-use mathlib.Core.Path.{_≡_, refl, sym, ap}
+use Prim.Native.Nat.{_+_}
+use mathlib.Core.Path.{_≡_, sym}
 use native.Mathlib.Omega.{arith}
 use lib.Dec.{T}
-use lib.IntN.{ℤ, pos, negsuc, natAbs, _-ℤ_}
-use lib.Signed.{ltZ, mag, nonNeg}
-use borrow.Author.Tests.{le-ltb, ltb-true}
+use lib.IntN.{pos, negsuc, natAbs, _-ℤ_}
+use lib.Signed.{mag, nonNeg}
 use mir.Syntax.{w64}
 use mir.Val.{toZ, ofZ}
 use mir.ValLaws.{toZ-ofZ, toZ-pos}
+use Rattle.exact.proofs.Sign.{below-zero, not-below-zero}
 use Rattle.show.proofs.magnitude.Statement.{statement}
 use Rattle.show.proofs.magnitude.Tie as tie
-
-minus : (k : ℕ) → negsuc 0 -ℤ negsuc k ≡ pos k
-minus k = rw (le-ltb (suc k) 1 (omega arith)) (ap pos (omega arith))
-
-flips : (z : ℤ) → ltZ z (pos 0) ≡ true → (negsuc 0 -ℤ z ≡ pos (mag z)) × (natAbs z ≡ mag z + 1)
-flips (pos a) t = let h : a < 0 = ltb-true a 0 t in absurd (omega (arith, h))
-flips (negsuc k) t = (minus k, omega arith)
-
-stays : (z : ℤ) → ltZ z (pos 0) ≡ false → T (nonNeg z) × (natAbs z ≡ mag z)
-stays (pos a) t = (tt, refl)
-stays (negsuc k) t = absurd (true≢false t)
 
 same : (c : tie.Start) → toZ w64 (ofZ w64 (c .args .z)) ≡ c .args .z
 same c = toZ-ofZ w64 (c .args .z) (c .fits .z)
 
 below : (c : tie.Then1) → let z = c .before .args .z in (negsuc 0 -ℤ z ≡ pos (mag z)) × (natAbs z ≡ mag z + 1)
-below c = flips (c .before .args .z) (rw (same (c .before)) at (c .if1 .taken))
+below c = below-zero (c .before .args .z) (rw (same (c .before)) at (c .if1 .taken))
 
 above : (c : tie.Else1) → let z = c .before .args .z in T (nonNeg z) × (natAbs z ≡ mag z)
-above c = stays (c .before .args .z) (rw (same (c .before)) at (c .if1 .left))
+above c = not-below-zero (c .before .args .z) (rw (same (c .before)) at (c .if1 .left))
 
 flipped : (c : tie.Then1) → toZ w64 (ofZ w64 (negsuc 0 -ℤ toZ w64 (ofZ w64 (c .before .args .z)))) ≡ pos (mag (c .before .args .z))
 flipped c = rw (same (c .before), below c .0) (toZ-pos w64 (mag (c .before .args .z)) (c .before .fits .z .sfits))

@@ -1,0 +1,40 @@
+-- Numbers as bytes, one number after the other.
+use Prim.Native.Nat.{ℕ, _+_, _*_, _-_, _<_}
+use mathlib.Core.Path.{_≡_, refl, sym, ap, _∙_}
+use mathlib.Core.List.{List, [], _∷_, _++_, append-assoc, append-nil}
+use native.Mathlib.Numerals.{add-one}
+use native.Mathlib.Nat.{le-of-lt}
+use native.Mathlib.Omega.{arith}
+use lib.IntN.{ℤ, pos}
+use lib.ListN.{length, take, drop, getD, length-append}
+use lib.Seq.{take-suc, length-take-le}
+use borrow.Rule.Slice.PartMut.{putMid}
+use Rattle.exact.proofs.Lending.{lent-back}
+use Rattle.rse8080.specs.Call.{bitsOf, bytesOf, encoded}
+
+eight : (bits : ℕ) → length (bytesOf bits) ≡ 8
+unfolding bytesOf
+eight bits = refl
+
+pub encoded-length : (numbers : List ℤ) → length (encoded numbers) ≡ 8 * length numbers
+unfolding encoded
+encoded-length [] = refl
+encoded-length (z ∷ numbers) = simp (length-append, eight, encoded-length numbers) (omega arith)
+
+encoded-last : (numbers : List ℤ) (z : ℤ) → encoded (numbers ++ (z ∷ [])) ≡ encoded numbers ++ bytesOf (bitsOf z)
+unfolding encoded
+encoded-last [] z = append-nil (bytesOf (bitsOf z))
+encoded-last (x ∷ numbers) z = rw (encoded-last numbers z) (sym (append-assoc (bytesOf (bitsOf x)) (encoded numbers) (bytesOf (bitsOf z))))
+
+encoded-more : (numbers : List ℤ) (i : ℕ) → i < length numbers → encoded (take (i + 1) numbers) ≡ encoded (take i numbers) ++ bytesOf (bitsOf (getD numbers i (pos 0)))
+encoded-more numbers i h = rw (add-one, take-suc numbers i (pos 0)) (encoded-last (take i numbers) (getD numbers i (pos 0)))
+
+-- a turn of the loop that stores number after number
+pub encoded-step : (numbers : List ℤ) (i : ℕ) (z : ℤ) (before xs part : List ℕ) → i < length numbers → z ≡ getD numbers i (pos 0)
+    → xs ≡ encoded (take i numbers) ++ drop (8 * i) before
+    → part ≡ bytesOf (bitsOf z) ++ drop 8 (take (length xs - 8 * i) (drop (8 * i) xs))
+    → putMid (8 * i) (length xs - 8 * i) xs part ≡ encoded (take (i + 1) numbers) ++ drop (8 * (i + 1)) before
+encoded-step numbers i z before xs part h is stands came =
+    let next : 8 * (i + 1) ≡ 8 * i + 8 = omega arith in
+    rw (encoded-more numbers i h, ← is, next)
+    (lent-back (encoded (take i numbers)) before (bytesOf (bitsOf z)) xs part (8 * i) 8 (encoded-length (take i numbers) ∙ rw (length-take-le i numbers (le-of-lt h))) stands came)

@@ -39,7 +39,7 @@ INPUT = ROOT / "crates" / "vectors" / "stdin"
 EXPECTED = ROOT / "crates" / "vectors" / "stdout"
 
 # The calls that the committed stream holds: those that the vectors program has.
-CALLS = (1, 2, 3, 4, 5)
+CALLS = (1, 2, 3, 4, 5, 6)
 ALL_CALLS = (1, 2, 3, 4, 5, 6)
 
 CHECK, SETTLE, PRICE, SHARE, LOOKUP, C_CALL = ALL_CALLS
@@ -1024,9 +1024,9 @@ def settle_thresholds(rng):
 
 
 def settle_random(rng):
-    """Random days of all styles; some have a needed price or a demand missing."""
-    for _ in range(180):
-        day = days.random_day(rng)
+    """Random days of all styles, every other one small; some have a needed price or a demand missing."""
+    for number in range(360):
+        day = small_day(rng) if number % 2 else days.random_day(rng)
         yield Case(SETTLE, day.numbers_needed() + rng.choice((0, 0, 1, 4)), day.to_bytes())
 
 
@@ -1348,8 +1348,8 @@ def c_call_refused(rng):
 
 def c_call_random(rng):
     """Random days, and the smaller files of vectors/."""
-    for _ in range(25):
-        day = days.random_day(rng)
+    for number in range(60):
+        day = small_day(rng) if number % 2 else days.random_day(rng)
         yield Case(C_CALL, 8 * day.numbers_needed() + rng.choice((0, 3, 16)), day.to_bytes())
     for file_bytes in vector_files():
         if len(file_bytes) <= 12000:

@@ -1,1 +1,3 @@
 pub mod Encoding
+pub mod Through
+pub mod Decoded

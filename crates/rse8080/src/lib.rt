@@ -73,7 +73,7 @@ fn settle_through(file: &[u8], numbers: &mut [i64], statement: &mut [u8]) -> u64
     let n = words::word(file, 2) as usize;
     let needed = settlement::numbers_needed(file, n);
     put_numbers(&numbers[..needed], statement);
-    0
+    code(answer)
 }
 
 // The one call for a host in C; include/rse8080.h says what it promises.

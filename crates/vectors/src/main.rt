@@ -168,6 +168,29 @@ fn settle(file: &[u8], x: usize) -> bool {
     true
 }
 
+// Each byte that is lent: what is printed of the bytes shows whether the call touched them.
+fn statement_bytes() -> [u8; 65536]
+    ensures { λ r. ⌜ 65536 ≡ length r ⌝ }
+{
+    [165; 65536]
+}
+
+fn settle_bytes(file: &[u8], statement: &mut [u8]) {
+    show::unsigned(rse8080::rse8080_settle(file, statement));
+    show::space();
+    show::unsigned(digest(statement));
+    show::end();
+}
+
+fn c_call(file: &[u8], x: usize) -> bool {
+    if 65536 < x {
+        return bad_case();
+    }
+    let mut room = statement_bytes();
+    settle_bytes(file, &mut room[..x]);
+    true
+}
+
 fn call(number: u32, x: u32, payload: &[u8]) -> bool {
     if number == 1 {
         check(payload);
@@ -186,6 +209,9 @@ fn call(number: u32, x: u32, payload: &[u8]) -> bool {
     if number == 5 {
         lookup(payload, x);
         return true;
+    }
+    if number == 6 {
+        return c_call(payload, x as usize);
     }
     bad_case()
 }

@@ -1,4 +1,5 @@
-// What the programs write on standard output: numbers in decimal, single spaces, line ends.
+// What the programs write on standard output: numbers in decimal, single spaces, line ends. Each call answers whether all
+// of it was written.
 use libc::STDOUT_FILENO;
 ghost use mathlib.Core.Path.{_≡_};
 ghost use lib.IntN.{natAbs};
@@ -12,7 +13,7 @@ pub fn unsigned(n: u64) -> bool {
 }
 
 // How far z is from 0. For z below 0, -1 - z does not wrap.
-fn magnitude(z: i64) -> u64
+pub fn magnitude(z: i64) -> u64
     ensures { λ r. ⌜ r ≡ natAbs z ⌝ }
 {
     if z < 0 {
@@ -23,7 +24,9 @@ fn magnitude(z: i64) -> u64
 
 pub fn signed(z: i64) -> bool {
     if z < 0 {
-        text(b"-");
+        if !text(b"-") {
+            return false;
+        }
     }
     unsigned(magnitude(z))
 }

@@ -1,0 +1,195 @@
+// The program: settles the day file on standard input and prints its charges, or why it is refused. All that is decided is
+// decided by `settlement::settle`; here the file is read, and the statement is printed.
+use libc::STDERR_FILENO;
+use libc::STDIN_FILENO;
+use verdict::Verdict;
+ghost use mathlib.Core.Path.{_≡_};
+ghost use Prim.Native.Nat.{_≤_};
+ghost use lib.ListN.{length};
+
+// A byte more than the longest file that is not refused for its length, so that a longer one is seen to be longer.
+fn file_room() -> [u8; 65537]
+    ensures { λ r. ⌜ 65537 ≡ length r ⌝ }
+{
+    [0; 65537]
+}
+
+// The most numbers that a statement takes: 24(3 + 1) for each of seven areas, and 24(3 + 64) for the one CISO.
+fn statement_room() -> [i64; 2280]
+    ensures { λ r. ⌜ 2280 ≡ length r ⌝ }
+{
+    [0; 2280]
+}
+
+// Word i of some bytes. An accepted file is not asked for a word past its end.
+fn word(bytes: &[u8], i: usize) -> u32 {
+    if bytes.len() / 4 <= i {
+        return 0;
+    }
+    words::word(bytes, i)
+}
+
+// Number i of a statement. A settled statement is not asked for a number past its end.
+fn number(statement: &[i64], i: usize) -> i64 {
+    if statement.len() <= i {
+        return 0;
+    }
+    statement[i]
+}
+
+// The statement from a number on.
+fn part(statement: &[i64], from: usize) -> &[i64] {
+    if statement.len() < from {
+        return &statement[..0];
+    }
+    &statement[from..]
+}
+
+// A word that says how many there are. An accepted file says no more than `most`.
+fn count(word: u32, most: u32) -> usize
+    ensures { λ r. ⌜ r ≤ most ⌝ }
+{
+    if most < word {
+        return most as usize;
+    }
+    word as usize
+}
+
+// K of an area.
+fn coordinators(body: &[u8]) -> usize
+    ensures { λ r. ⌜ r ≤ 64 ⌝ }
+{
+    count(word(body, 6), 64)
+}
+
+// A charge is within 10,000,000,000 cents, and a statement has 2,280 numbers at most: the sum does not come near the bound.
+fn sum(total: i64, charge: i64) -> i64 {
+    if 1000000000000000000 < show::magnitude(total) {
+        return total;
+    }
+    if 1000000000000000000 < show::magnitude(charge) {
+        return total;
+    }
+    total + charge
+}
+
+// What is printed: whether all of it was written, and the sum of its charges.
+struct Printed {
+    written: bool,
+    total: i64,
+}
+
+fn show_refusal(answer: Verdict) -> bool {
+    show::text(b"refused ")
+        & show::unsigned(verdict::number(answer) as u64)
+        & show::space()
+        & show::unsigned(verdict::place(answer) as u64)
+        & show::end()
+}
+
+fn show_head(file: &[u8]) -> bool {
+    show::text(b"8080 ")
+        & show::unsigned(word(file, 1) as u64)
+        & show::space()
+        & show::unsigned(word(file, 2) as u64)
+        & show::end()
+}
+
+fn show_charge(area: u32, coordinator: u32, hour: u8, charge: i64) -> bool {
+    show::unsigned(area as u64)
+        & show::space()
+        & show::unsigned(coordinator as u64)
+        & show::space()
+        & show::unsigned(hour as u64)
+        & show::space()
+        & show::signed(charge)
+        & show::end()
+}
+
+fn show_total(total: i64) -> bool {
+    show::text(b"total ") & show::signed(total) & show::end()
+}
+
+fn with_charge(before: Printed, area: u32, coordinator: u32, hour: u8, charge: i64) -> Printed {
+    if charge == 0 {
+        return before;
+    }
+    let written = show_charge(area, coordinator, hour, charge);
+    Printed {
+        written: before.written & written,
+        total: sum(before.total, charge),
+    }
+}
+
+fn with_hour(before: Printed, area: u32, body: &[u8], hour: u8, charges: &[i64]) -> Printed {
+    let n = coordinators(body);
+    let mut printed = before;
+    let mut i: usize = 0;
+    while i < n {
+        let coordinator = word(body, 7 + i);
+        let charge = number(charges, i);
+        printed = with_charge(printed, area, coordinator, hour, charge);
+        i += 1;
+    }
+    printed
+}
+
+// The charges of an hour stand behind its three amounts.
+fn with_area(before: Printed, area: u32, body: &[u8], block: &[i64]) -> Printed {
+    let n = coordinators(body);
+    let mut printed = before;
+    let mut at: usize = 3;
+    let mut hour: u8 = 1;
+    while hour <= 24 {
+        printed = with_hour(printed, area, body, hour, part(block, at));
+        at += 3 + n;
+        hour += 1;
+    }
+    printed
+}
+
+fn show_charges(file: &[u8], statement: &[i64]) -> Printed {
+    let n = count(word(file, 2), 8);
+    let mut printed = Printed {
+        written: true,
+        total: 0,
+    };
+    let mut at: usize = 0;
+    let mut k: usize = 0;
+    while k < n {
+        let area = word(file, 4 + 3 * k);
+        let body = dayfile::body_of(file, area);
+        printed = with_area(printed, area, body, part(statement, at));
+        at += 24 * (3 + coordinators(body));
+        k += 1;
+    }
+    printed
+}
+
+fn show_statement(file: &[u8], statement: &[i64]) -> bool {
+    let head = show_head(file);
+    let printed = show_charges(file, statement);
+    head & printed.written & show_total(printed.total)
+}
+
+// Whether all that there is to print was written.
+fn settle(file: &[u8]) -> bool {
+    let mut statement = statement_room();
+    let answer = settlement::settle(file, &mut statement);
+    if verdict::number(answer) != 0 {
+        return show_refusal(answer);
+    }
+    show_statement(file, &statement)
+}
+
+// A program has no exit status, so what could not be written is said on standard error.
+fn main() {
+    let mut room = file_room();
+    let got = io::read_full(STDIN_FILENO, &mut room);
+    if !settle(&room[..got]) {
+        io::write_all(
+            STDERR_FILENO,
+            b"settle8080: standard output could not be written\n",
+        );
+    }
+}

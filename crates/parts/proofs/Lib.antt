@@ -1,0 +1,4 @@
+pub mod Words
+pub mod FileOf
+pub mod GoodFile
+pub mod OwnParts

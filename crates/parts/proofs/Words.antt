@@ -1,0 +1,61 @@
+-- A word of some bytes, by where it stands: in front, behind, or among words that were written out.
+use Prim.Native.Nat.{ℕ, zero, suc, _+_, _*_, _/_, _%_, _≤_, _<_}
+use mathlib.Core.List.{List, [], _∷_, _++_}
+use mathlib.Core.Path.{_≡_, refl, sym, ap, _∙_}
+use native.Mathlib.Omega.{arith}
+use lib.ListN.{length, getD, length-append, List·getD-append}
+use lib.Seq.{getD-append-add}
+use Rattle.words.specs.Word.{wordAt}
+use Rattle.parts.specs.Bytes.{wordBytes, wordsBytes, Below}
+
+module _ (xs ys : List ℕ) where
+  byte-behind : (m k j : ℕ) → length xs ≡ m → k ≡ m + j → getD (xs ++ ys) k 0 ≡ getD ys j 0
+  byte-behind m k j long e = rw (e, ← long) (getD-append-add xs ys j 0)
+
+  -- a word behind the first m words
+  pub word-behind : (m i : ℕ) → length xs ≡ 4 * m → wordAt (xs ++ ys) (m + i) ≡ wordAt ys i
+  unfolding wordAt
+  word-behind m i long =
+      rw (
+        byte-behind (4 * m) (4 * (m + i)) (4 * i) long (omega arith),
+        byte-behind (4 * m) (4 * (m + i) + 1) (4 * i + 1) long (omega arith),
+        byte-behind (4 * m) (4 * (m + i) + 2) (4 * i + 2) long (omega arith),
+        byte-behind (4 * m) (4 * (m + i) + 3) (4 * i + 3) long (omega arith),
+      )
+
+  pub word-front : (i : ℕ) → 4 * i + 4 ≤ length xs → wordAt (xs ++ ys) i ≡ wordAt xs i
+  unfolding wordAt
+  word-front i h =
+      rw (
+        List·getD-append xs ys 0 (4 * i) (omega arith),
+        List·getD-append xs ys 0 (4 * i + 1) (omega arith),
+        List·getD-append xs ys 0 (4 * i + 2) (omega arith),
+        List·getD-append xs ys 0 (4 * i + 3) (omega arith),
+      )
+
+pub words-length : (words : List ℕ) → length (wordsBytes words) ≡ 4 * length words
+unfolding wordsBytes
+words-length [] = refl
+words-length (w ∷ words) = length-append (wordBytes w) (wordsBytes words) ∙ omega (arith, words-length words)
+
+packed : (w : ℕ) → w < 4294967296 → w % 256 + 256 * (w / 256 % 256) + 65536 * (w / 65536 % 256) + 16777216 * (w / 16777216 % 256) ≡ w
+packed w h =
+    let one : w / 256 / 256 ≡ w / 65536 = omega arith in
+    let two : w / 65536 / 256 ≡ w / 16777216 = omega arith in
+    let three : w / 16777216 % 256 ≡ w / 16777216 = omega arith in
+    omega (arith, one, two, three)
+
+first-word : (w : ℕ) (ys : List ℕ) → w < 4294967296 → wordAt (wordBytes w ++ ys) 0 ≡ w
+unfolding wordAt
+first-word w ys h = packed w h
+
+-- the words that were written out stand there
+pub word-written : (words rest : List ℕ) (i : ℕ) → Below 4294967296 words → i < length words → wordAt (wordsBytes words ++ rest) i ≡ getD words i 0
+unfolding wordsBytes
+word-written [] rest i small h = absurd (omega arith)
+word-written (w ∷ words) rest zero small h = first-word w (wordsBytes words ++ rest) (small .each 0 h)
+word-written (w ∷ words) rest (suc i) small h =
+    let e : suc i ≡ 1 + i = omega arith in
+    ap (wordAt (wordBytes w ++ (wordsBytes words ++ rest))) e
+    ∙ word-behind (wordBytes w) (wordsBytes words ++ rest) 1 i refl
+    ∙ word-written words rest i (record { each = λ j p. small .each (suc j) (omega arith) }) (omega arith)

@@ -12,15 +12,10 @@ use Rattle.verdict.specs.Verdict.{numberOf}
 use Rattle.dayfile.specs.File.{dayOf, areasOf, peakOf, numberAt, startAt, sizeAt, dueAt, bodyAt}
 use Rattle.dayfile.specs.Check.{checkWithin}
 use Rattle.dayfile.proofs.Facts.{file-length, file-head, file-entry, body-length}
-use Rattle.parts.specs.Bytes.{wordBytes, wordsBytes, Below}
+use Rattle.parts.specs.Bytes.{wordBytes, wordsBytes, wordsFrom, Below}
 use Rattle.parts.specs.FileOf.{Area, sizeOf, contentsOf, bodiesOf, frontOf, fileOf, areaOf, areasFrom, partsOf}
 
 -- ---- words and the bytes that they stand for
-
--- m words from word i on
-unfoldable wordsFrom : List ℕ → ℕ → ℕ → List ℕ
-wordsFrom file i zero = []
-wordsFrom file i (suc m) = wordAt file i ∷ wordsFrom file (suc i) m
 
 low-byte : (b q w : ℕ) → b < 256 → w ≡ b + 256 * q → w % 256 ≡ b
 low-byte b q w h e = omega arith

@@ -1,12 +1,15 @@
 -- A word of some bytes, by where it stands: in front, behind, or among words that were written out.
 use Prim.Native.Nat.{ℕ, zero, suc, _+_, _*_, _/_, _%_, _≤_, _<_}
 use mathlib.Core.List.{List, [], _∷_, _++_}
+use mathlib.Core.Logic.{dite}
 use mathlib.Core.Path.{_≡_, refl, sym, ap, _∙_}
+use native.Mathlib.Decide.{decLt}
+use native.Mathlib.Nat.{add-zero}
 use native.Mathlib.Omega.{arith}
-use lib.ListN.{length, getD, length-append, List·getD-append}
+use lib.ListN.{length, getD, length-append, List·getD-append, List·getD-eq-default}
 use lib.Seq.{getD-append-add}
 use Rattle.words.specs.Word.{wordAt}
-use Rattle.parts.specs.Bytes.{wordBytes, wordsBytes, Below}
+use Rattle.parts.specs.Bytes.{wordBytes, wordsBytes, wordsFrom, Below}
 
 module _ (xs ys : List ℕ) where
   byte-behind : (m k j : ℕ) → length xs ≡ m → k ≡ m + j → getD (xs ++ ys) k 0 ≡ getD ys j 0
@@ -59,3 +62,26 @@ word-written (w ∷ words) rest (suc i) small h =
     ap (wordAt (wordBytes w ++ (wordsBytes words ++ rest))) e
     ∙ word-behind (wordBytes w) (wordsBytes words ++ rest) 1 i refl
     ∙ word-written words rest i (record { each = λ j p. small .each (suc j) (omega arith) }) (omega arith)
+
+-- ---- words that are read off some bytes
+
+module _ (bytes : List ℕ) where
+  pub words-count : (i m : ℕ) → length (wordsFrom bytes i m) ≡ m
+  unfolding wordsFrom
+  words-count i zero = refl
+  words-count i (suc m) = ap suc (words-count (suc i) m)
+
+  pub words-at : (i m j : ℕ) → j < m → getD (wordsFrom bytes i m) j 0 ≡ wordAt bytes (i + j)
+  unfolding wordsFrom
+  words-at i zero j h = absurd (omega arith)
+  words-at i (suc m) zero h = ap (wordAt bytes) (sym (add-zero i))
+  words-at i (suc m) (suc j) h = let e : suc i + j ≡ i + suc j = omega arith in words-at (suc i) m j (omega arith) ∙ ap (wordAt bytes) e
+
+-- bytes below 256 make words below 2^32
+byte-below : (bytes : List ℕ) → Below 256 bytes → (i : ℕ) → getD bytes i 0 < 256
+byte-below bytes b i =
+    dite (decLt i (length bytes)) (λ h. b .each i h) (λ h. rw (List·getD-eq-default bytes 0 {n = i} (omega (arith, h))) (omega arith))
+
+pub word-below : (bytes : List ℕ) → Below 256 bytes → (i : ℕ) → wordAt bytes i < 4294967296
+unfolding wordAt
+word-below bytes b i = omega (arith, byte-below bytes b (4 * i), byte-below bytes b (4 * i + 1), byte-below bytes b (4 * i + 2), byte-below bytes b (4 * i + 3))

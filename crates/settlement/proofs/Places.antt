@@ -24,7 +24,7 @@ use Rattle.statement.specs.Block.{areaNumbers}
 use Rattle.settlement.specs.Settlement.{neededTo, numbersNeeded, chargeable, hourRule, hoursRule, areaRule, areasRule, acceptedRule, settleWith, settleOf}
 
 -- K of an area is 1, and up to 63 more where it is CISO
-few-coordinators : (kind count : ℕ) → kind ≤ 1 → count ≤ mostCoordinators kind → count ≤ 1 + 63 * kind
+pub few-coordinators : (kind count : ℕ) → kind ≤ 1 → count ≤ mostCoordinators kind → count ≤ 1 + 63 * kind
 few-coordinators zero count h c = c
 few-coordinators (suc zero) count h c = c
 few-coordinators (suc (suc kind)) count h c = absurd (omega arith)

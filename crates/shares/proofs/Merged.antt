@@ -41,7 +41,7 @@ module _ (amount : ℤ) (t : ℕ) where
       (sym (sum-from amount t c′ run) ∙ ap sum (sym (from-take c′ n (drop i ds)) ∙ ap (take n) (sym (from-drop c i ds))))
       (sym (from-drop c′ n (drop i ds)) ∙ ap (drop n) (sym (from-drop c i ds)))))
 
-total-merged : (i n : ℕ) (ds : List ℕ) → total (mergedAt total i n ds) ≡ total ds
+pub total-merged : (i n : ℕ) (ds : List ℕ) → total (mergedAt total i n ds) ≡ total ds
 unfolding total
 total-merged i n ds =
     let rest = drop i ds in

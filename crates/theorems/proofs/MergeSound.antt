@@ -1,0 +1,152 @@
+-- A sound body is sound with its neighbours merged.
+use Prim.Native.Nat.{ℕ, zero, suc, _+_, _*_, _-_, _/_, _≤_, _<_}
+use mathlib.Core.Bool.{false}
+use mathlib.Core.List.{List}
+use mathlib.Core.Logic.{dite, ⊎-elim}
+use mathlib.Core.Path.{_≡_, refl, sym, ap, _∙_}
+use native.Mathlib.Decide.{decLt, le-ind}
+use native.Mathlib.Nat.{eq-or-lt-of-le, le-refl, le-trans, add-zero}
+use native.Mathlib.Omega.{arith}
+use lib.IntN.{natAbs}
+use lib.ListN.{length, getD}
+use Rattle.words.specs.Word.{wordAt, signedOf}
+use Rattle.body.specs.Layout.{missing, kindOf, pointsOf, coordinatorsOf, coordinatorAt, coordinatorBefore, bodyWords, hourAt, deficiencyAt, requirementAt, mecAt, intervalsAt, quantityAt, priceAt, demandsAt, demandAt, runningDemand}
+use Rattle.body.specs.Check.{mostCoordinators}
+use Rattle.body.specs.Sound.{Sound}
+use Rattle.body.proofs.Facts.{hour-demand}
+use Rattle.parts.specs.Bytes.{Below, wordsFrom}
+use Rattle.parts.proofs.Words.{words-count, words-at}
+use Rattle.theorems.specs.Merge.{Mergeable, Merged, mergedBody}
+use Rattle.theorems.proofs.Joined.{merged-before, merged-there, merged-behind}
+use Rattle.theorems.proofs.SameHours.{interval-same}
+use Rattle.theorems.proofs.MergedBody.{demand-same}
+use Rattle.theorems.proofs.MergeWords.{other-length, head-is, count-is, coordinator-is, built}
+
+running-grows : (body : List ℕ) (from j m : ℕ) → j ≤ m → runningDemand body from j ≤ runningDemand body from m
+unfolding runningDemand
+running-grows body from j m h = le-ind (λ k. runningDemand body from j ≤ runningDemand body from k) (le-refl _) (λ k _ p. le-trans p (omega arith)) m h
+
+running-next : (body : List ℕ) (from j : ℕ) → runningDemand body from (suc j) ≡ runningDemand body from j + wordAt body (from + j)
+unfolding runningDemand
+running-next body from j = refl
+
+before-first : (body : List ℕ) → coordinatorBefore body 0 ≡ 0
+unfolding coordinatorBefore
+before-first body = refl
+
+before-next : (body : List ℕ) (j : ℕ) → coordinatorBefore body (suc j) ≡ coordinatorAt body j
+unfolding coordinatorBefore
+before-next body j = refl
+
+module _ (most i n number : ℕ) (body : List ℕ) (g : Mergeable i n number body) (sound : Sound most body) (bytes : Below 256 body) where
+  abbrev count : ℕ
+  count = coordinatorsOf body
+
+  abbrev fewer : ℕ
+  fewer = count + 1 - n
+
+  abbrev other : List ℕ
+  other = mergedBody i n number body
+
+  abbrev numbers : List ℕ
+  numbers = wordsFrom body 7 count
+
+  numbers-inside : i + n ≤ length numbers
+  numbers-inside = omega (arith, words-count body 7 count, g .inside)
+
+  m : Merged i n body other
+  m = built most i n number body g sound bytes
+
+  -- ---- the coordinator numbers rise
+
+  at-before : (j : ℕ) → j < i → coordinatorAt other j ≡ coordinatorAt body j
+  at-before j h =
+      coordinator-is most i n number body g sound bytes j (omega (arith, g .inside))
+      ∙ merged-before (λ _. number) i n numbers numbers-inside j h
+      ∙ words-at body 7 count j (omega (arith, g .inside))
+
+  at-there : coordinatorAt other i ≡ number
+  at-there = coordinator-is most i n number body g sound bytes i (omega (arith, g .inside, g .some)) ∙ merged-there (λ _. number) i n numbers numbers-inside
+
+  at-behind : (j : ℕ) → i < j → j < fewer → coordinatorAt other j ≡ coordinatorAt body (j + n - 1)
+  at-behind j h l =
+      coordinator-is most i n number body g sound bytes j l
+      ∙ merged-behind (λ _. number) i n numbers numbers-inside j h (g .some)
+      ∙ words-at body 7 count (j + n - 1) (omega (arith, g .inside, g .some))
+
+  before-same : (j : ℕ) → j ≤ i → coordinatorBefore other j ≡ coordinatorBefore body j
+  before-same zero h = before-first other ∙ sym (before-first body)
+  before-same (suc j) h = before-next other j ∙ at-before j h ∙ sym (before-next body j)
+
+  abbrev Rises : ℕ → Type 0
+  Rises j = (coordinatorBefore other j < coordinatorAt other j) × (coordinatorAt other j ≤ 2147483647)
+
+  rises-behind : (j : ℕ) → i ≤ j → suc j < fewer → Rises (suc j)
+  rises-behind j h l =
+      let back : suc j + n - 1 ≡ j + n = omega arith in
+      let here : coordinatorAt other (suc j) ≡ coordinatorAt body (j + n) = at-behind (suc j) (omega arith) l ∙ ap (coordinatorAt body) back in
+      let inside : j + n < count = omega (arith, g .inside, g .some) in
+      let from = sound .coordinator (j + n) inside in
+      rw (before-next other j, here) (
+        ⊎-elim
+            (λ (e : i ≡ j).
+            let next : number < coordinatorAt body (j + n) = rw (← e) (g .under (omega (arith, e, inside))) in
+            rw (ap (coordinatorAt other) (sym e) ∙ at-there) next)
+            (λ (q : i < j).
+            let one : j + n ≡ suc (j + n - 1) = omega (arith, g .some) in
+            let before : coordinatorBefore body (j + n) ≡ coordinatorAt body (j + n - 1) = ap (coordinatorBefore body) one ∙ before-next body (j + n - 1) in
+            rw (at-behind j q (omega arith)) (rw before at (from .0)))
+            (eq-or-lt-of-le h),
+        from .1,
+      )
+
+  rises : (j : ℕ) → j < fewer → Rises j
+  rises j l =
+      dite (decLt j i)
+      (λ p. rw (before-same j (omega arith), at-before j p) (sound .coordinator j (omega (arith, p, g .inside))))
+      (λ p. ⊎-elim
+      (λ (e : i ≡ j). rw (← e, before-same i (omega arith), at-there) (g .above, g .small))
+      (λ (q : i < j). behind j q l)
+      (eq-or-lt-of-le (omega (arith, p))))
+    where
+      behind : (j : ℕ) → i < j → j < fewer → Rises j
+      behind zero q l = absurd (omega arith)
+      behind (suc j) q l = rises-behind j (omega arith) l
+
+  -- ---- the demands
+
+  demand-kept : (h j : ℕ) → h < 24 → j < coordinatorsOf other → (demandAt other h j ≤ 100000000) × (runningDemand other (demandsAt other h) j + demandAt other h j ≤ 100000000)
+  demand-kept h j p q =
+      let all = demand-same i n body other m 0 0 h p in
+      let up = running-grows other (demandsAt other h) (suc j) (coordinatorsOf other) q in
+      let next = running-next other (demandsAt other h) j in
+      let most-demand = hour-demand most body sound h p count (omega arith) in
+      (omega (arith, all, up, next, most-demand), omega (arith, all, up, next, most-demand))
+
+  price-word : (h j : ℕ) → h < 24 → j < 12 * pointsOf body → priceAt other h j ≡ priceAt body h j
+  price-word h j p q =
+      let there : (at : ℕ) → at + 2 * j + 1 ≡ at + (2 * j + 1) = λ at. omega arith in
+      ap (wordAt other) (there (intervalsAt other h)) ∙ interval-same body other (m .same) h p (2 * j + 1) (omega arith) ∙ ap (wordAt body) (sym (there (intervalsAt body h)))
+
+  pub merged-sound : Sound most other
+  merged-sound =
+      let same = m .same in
+      let points = head-is most i n number body g sound bytes 5 (omega arith) in
+      let fewer-is = count-is most i n number body g sound bytes in
+      record {
+        size = omega (arith, other-length most i n number body g sound bytes, points, fewer-is);
+        kind = rw (same .head 0 (omega arith)) (sound .kind);
+        flag = rw (same .head 1 (omega arith)) (sound .flag);
+        days = rw (same .head 2 (omega arith)) (sound .days);
+        hub-a = rw (same .head 3 (omega arith)) (sound .hub-a);
+        hub-b = rw (same .head 4 (omega arith)) (sound .hub-b);
+        points = rw points (sound .points);
+        coordinators = (omega (arith, fewer-is, g .inside, g .some), rw (same .head 0 (omega arith)) (omega (arith, fewer-is, g .some, sound .coordinators .1)));
+        coordinator = λ j p. rises j (omega (arith, p, fewer-is));
+        deficiency = λ h j p q. rw (same .hour h j p (omega arith)) (sound .deficiency h j p q);
+        requirement = λ h p. rw (same .hour h 6 p (omega arith)) (sound .requirement h p);
+        mec = λ h p. rw (same .hour h 7 p (omega arith)) (sound .mec h p);
+        quantity = λ h j p q. rw (interval-same body other same h p (2 * j) (omega (arith, q, points))) (sound .quantity h j p (omega (arith, q, points)));
+        price = λ h j p q. rw (price-word h j p (omega (arith, q, points))) (sound .price h j p (omega (arith, q, points)));
+        demand = demand-kept;
+      }

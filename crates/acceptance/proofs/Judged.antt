@@ -1,17 +1,17 @@
 -- What a part of the check says of the words that it judges: it accepts when each keeps its rule, and refuses at the first that breaks it.
 use Prim.Native.Nat.{ℕ, zero, suc, _+_, _<_, _≤_}
-use mathlib.Core.Bool.{Bool, true, false, true≢false}
+use mathlib.Core.Bool.{Bool, true, false, _&&_, true≢false}
 use mathlib.Core.Logic.{dite}
 use mathlib.Core.Path.{_≡_, refl, sym, subst}
 use native.Mathlib.Decide.{decLt}
 use native.Mathlib.Omega.{arith}
-use lib.Dec.{eqb}
-use borrow.Author.Tests.{eqb-true, eqb-false}
+use lib.Dec.{eqb, leb}
+use borrow.Author.Tests.{eqb-true, eqb-false, leb-true, le-leb}
 use Rattle.verdict.specs.declared.Verdict.{Verdict}
 use Rattle.verdict.specs.declared.Verdict.the-variants.{Accepted}
 use Rattle.verdict.specs.Verdict.{numberOf, placeOf}
 use Rattle.verdict.specs.First.{rule_else_then_, _orElse_, scan}
-use Rattle.verdict.proofs.First.{seq-stop, seq-next}
+use Rattle.verdict.proofs.First.{both, seq-stop, seq-next}
 
 -- ---- "the words before p keep their rules", for the ways in which a check is put together
 
@@ -33,6 +33,20 @@ pub record Both (First Second : ℕ → Type 0) (p : ℕ) : Type 0 where
 pub record Each (k n : ℕ) (Part : ℕ → ℕ → Type 0) (p : ℕ) : Type 0 where
   pub each : (i : ℕ) → k ≤ i → i < n → Part i p
 
+pub none : {p : ℕ} → Nothing p
+none = record { nothing = refl }
+
+infixr 5 _then_
+pub _then_ : {word : ℕ} {Rule : Type 0} {Rest : ℕ → Type 0} {p : ℕ} → (word < p → Rule) → Rest p → Word word Rule Rest p
+h then r = record { here = h; rest = r }
+
+infixr 4 _and_
+pub _and_ : {First Second : ℕ → Type 0} {p : ℕ} → First p → Second p → Both First Second p
+a and b = record { first = a; second = b }
+
+pub for-each : {n : ℕ} {Part : ℕ → ℕ → Type 0} {p : ℕ} → ((i : ℕ) → i < n → Part i p) → Each 0 n Part p
+for-each f = record { each = λ i b l. f i l }
+
 -- A verdict on the words from `from` up to `end`, where `Part p` says that those before p keep their rules.
 pub record Judged (verdict : Verdict) (from end : ℕ) (Part : ℕ → Type 0) : Type 0 where
   pub early : (p : ℕ) → p ≤ from → Part p
@@ -41,6 +55,21 @@ pub record Judged (verdict : Verdict) (from end : ℕ) (Part : ℕ → Type 0) :
   pub inside : (numberOf verdict ≡ 0 → ⊥) → placeOf verdict < end
   pub before : (numberOf verdict ≡ 0 → ⊥) → Part (placeOf verdict)
   pub broken : (numberOf verdict ≡ 0 → ⊥) → (p : ℕ) → placeOf verdict < p → Part p → ⊥
+
+-- ---- two tests in one
+
+pub both-true : (a b : Bool) → a ≡ true → b ≡ true → (a && b) ≡ true
+both-true a b p q = rw (p, q)
+
+-- a number from `least` to `most`
+module _ (least number most : ℕ) where
+  pub between : (leb least number && leb number most) ≡ true → (least ≤ number) × (number ≤ most)
+  between h =
+      let b = both (leb least number) (leb number most) h in
+      (leb-true least number (b .0), leb-true number most (b .1))
+
+  pub between-test : (least ≤ number) × (number ≤ most) → (leb least number && leb number most) ≡ true
+  between-test h = both-true _ _ (le-leb least number (h .0)) (le-leb number most (h .1))
 
 -- ---- the laws
 
@@ -79,6 +108,13 @@ module _ (refusal rest : Verdict) (from end : ℕ) (Rule : Type 0) (Rest : ℕ �
         broken = λ r p h k. true≢false (sym (kept (k .here h)));
       }
 
+-- the rule that a number is at most `most`, and then the rest
+pub most-judged : (number most : ℕ) (refusal rest : Verdict) (from end : ℕ) (Rest : ℕ → Type 0) → (numberOf refusal ≡ 0 → ⊥)
+    → placeOf refusal ≤ from → placeOf refusal < end → Judged rest from end Rest
+    → Judged (rule leb number most else refusal then rest) (placeOf refusal) end (Word (placeOf refusal) (number ≤ most) Rest)
+most-judged number most refusal rest from end Rest never behind room judged =
+    rule-judged refusal rest from end (number ≤ most) Rest never behind room judged (leb number most) (leb-true number most) (le-leb number most)
+
 -- two parts in order: of the second it must be known beforehand only that none of its words stands before its first
 module _ (first second : Verdict) (from middle end : ℕ) (First Second : ℕ → Type 0) (ordered : from ≤ middle) (room : middle ≤ end)
     (one : Judged first from middle First) (early-two : (p : ℕ) → p ≤ middle → Second p)
@@ -111,6 +147,12 @@ module _ (first second : Verdict) (from middle end : ℕ) (First Second : ℕ �
   pub or-judged : Judged (first orElse second) from end (Both First Second)
   or-judged = either (eqb (numberOf first) 0) refl
 
+-- two parts in order, each judged whatever the other says
+pub and-judged : (first second : Verdict) (from middle end : ℕ) (First Second : ℕ → Type 0) → from ≤ middle → middle ≤ end
+    → Judged first from middle First → Judged second middle end Second → Judged (first orElse second) from end (Both First Second)
+and-judged first second from middle end First Second ordered room one two =
+    or-judged first second from middle end First Second ordered room one (two .early) (λ z. two)
+
 -- the same words, said otherwise
 pub judged-as : (verdict : Verdict) (from end : ℕ) (One Other : ℕ → Type 0) → ((p : ℕ) → One p → Other p) → ((p : ℕ) → Other p → One p)
     → Judged verdict from end One → Judged verdict from end Other
@@ -141,8 +183,17 @@ module _ (part : ℕ → Verdict) (from : ℕ → ℕ) (Part : ℕ → ℕ → T
             (or-judged (part k) (scan part (suc k) m) (from k) (from (suc k)) (from n) (Part k) (Each (suc k) n Part) (rising k (omega arith)) (behind .0) (judged k (omega arith)) (λ p h. behind .1 .early p h) (λ z. behind .1)),
       )
 
-  pub scan-judged : Judged (scan part 0 n) (from 0) (from n) (Each 0 n Part)
-  scan-judged = scan-from 0 n (omega arith) .1
+  pub scan-judged : (first end : ℕ) → first ≤ from 0 → from n ≤ end → Judged (scan part 0 n) first end (Each 0 n Part)
+  scan-judged first end opens closes =
+      let whole = scan-from 0 n (omega arith) .1 in
+      record {
+        early = λ p h. whole .early p (omega arith);
+        all = λ z p. whole .all z p;
+        not-before = λ r. omega (arith, whole .not-before r);
+        inside = λ r. omega (arith, whole .inside r);
+        before = λ r. whole .before r;
+        broken = λ r p h q. whole .broken r p h q;
+      }
 
 -- ---- what follows
 

@@ -1,1 +1,4 @@
 pub mod Judged
+pub mod HourWords
+pub mod BodyWords
+pub mod Acceptance

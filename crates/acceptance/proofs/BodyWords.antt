@@ -8,18 +8,18 @@ use native.Mathlib.Omega.{arith}
 use lib.Dec.{leb, ltb, eqb}
 use lib.IntN.{natAbs}
 use lib.ListN.{length}
-use borrow.Author.Tests.{leb-true, le-leb, ltb-true, lt-ltb, eqb-true, eq-eqb}
+use borrow.Author.Tests.{eqb-true, eq-eqb}
 use Rattle.words.specs.Word.{wordAt, signedOf}
 use Rattle.limits.specs.declared.Limits.{Limits}
 use Rattle.verdict.specs.Verdict.{numberOf}
 use Rattle.verdict.specs.declared.Verdict.the-variants.{Accepted, BadContents, BadBodyHead, BadCoordinator}
-use Rattle.verdict.proofs.First.{both}
 use Rattle.body.specs.Layout.{bodyWords, hourWords, hourStart, coordinatorBefore}
 use Rattle.body.specs.Check.{mostCoordinators, headRule, countRule, coordinatorRule, headOf, frontRule, coordinatorOf, coordinatorsRule, hourRule, hourOf, hoursRule, bodyRule}
 use Rattle.body.proofs.HourPlaces.{hour-next}
 use Rattle.body.proofs.Rules.{front-size}
 use Rattle.acceptance.specs.WellFormed.{BodyKept}
-use Rattle.acceptance.proofs.Judged.{Judged, Nothing, Word, Both, Each, none, _then_, _and_, for-each, both-true, between, between-test, accepted-judged, rule-judged, most-judged, or-judged, and-judged, scan-judged, judged-as, judged-accepts}
+use Rattle.acceptance.proofs.Tests.{between, between-test, above, above-test}
+use Rattle.acceptance.proofs.Judged.{Judged, Nothing, Word, Both, Each, none, _then_, _and_, for-each, accepted-judged, rule-judged, most-judged, or-judged, and-judged, scan-judged, judged-as, judged-accepts}
 use Rattle.acceptance.proofs.HourWords.{Hour, hour-judged}
 
 -- ---- the rules of the head
@@ -38,13 +38,13 @@ head-judged : (points ciso start kind flag days hubA hubB load : ℕ)
     → Judged (headRule points ciso start kind flag days hubA hubB load) start (start + 6) (HeadWords points ciso start kind flag days hubA hubB load)
 unfolding headRule
 head-judged points ciso start kind flag days hubA hubB load =
-    most-judged kind 1 (BadBodyHead start) _ start (start + 6) _ (λ q. omega arith) (omega arith) (omega arith)
-    (most-judged (ciso + kind) 1 (BadBodyHead start) _ (start + 1) (start + 6) _ (λ q. omega arith) (omega arith) (omega arith)
-    (most-judged flag 1 (BadBodyHead (start + 1)) _ (start + 2) (start + 6) _ (λ q. omega arith) (omega arith) (omega arith)
-    (most-judged days 30 (BadBodyHead (start + 2)) _ (start + 3) (start + 6) _ (λ q. omega arith) (omega arith) (omega arith)
-    (most-judged hubA 200000 (BadBodyHead (start + 3)) _ (start + 4) (start + 6) _ (λ q. omega arith) (omega arith) (omega arith)
-    (most-judged hubB 200000 (BadBodyHead (start + 4)) _ (start + 5) (start + 6) _ (λ q. omega arith) (omega arith) (omega arith)
-    (rule-judged (BadBodyHead (start + 5)) Accepted (start + 6) (start + 6) _ Nothing (λ q. omega arith) (omega arith) (omega arith) (accepted-judged _ _)
+    most-judged kind 1 (BadBodyHead start) _ start (start + 6) _ (omega arith) (omega arith) (omega arith)
+    (most-judged (ciso + kind) 1 (BadBodyHead start) _ (start + 1) (start + 6) _ (omega arith) (omega arith) (omega arith)
+    (most-judged flag 1 (BadBodyHead (start + 1)) _ (start + 2) (start + 6) _ (omega arith) (omega arith) (omega arith)
+    (most-judged days 30 (BadBodyHead (start + 2)) _ (start + 3) (start + 6) _ (omega arith) (omega arith) (omega arith)
+    (most-judged hubA 200000 (BadBodyHead (start + 3)) _ (start + 4) (start + 6) _ (omega arith) (omega arith) (omega arith)
+    (most-judged hubB 200000 (BadBodyHead (start + 4)) _ (start + 5) (start + 6) _ (omega arith) (omega arith) (omega arith)
+    (rule-judged (BadBodyHead (start + 5)) Accepted (start + 6) (start + 6) _ Nothing (omega arith) (omega arith) (omega arith) (accepted-judged _ _)
     (leb 1 load && leb load points) (between 1 load points) (between-test 1 load points)))))))
 
 abbrev CountWords : (start size most load count : ℕ) → ℕ → Type 0
@@ -56,8 +56,8 @@ count-judged : (start size most load count : ℕ)
     → Judged (countRule start size most load count) (start + 6) (start + 7) (CountWords start size most load count)
 unfolding countRule
 count-judged start size most load count =
-    rule-judged (BadBodyHead (start + 6)) _ (start + 6) (start + 7) _ _ (λ q. omega arith) (omega arith) (omega arith)
-    (rule-judged (BadContents (start + 6)) Accepted (start + 7) (start + 7) _ Nothing (λ q. omega arith) (omega arith) (omega arith) (accepted-judged _ _)
+    rule-judged (BadBodyHead (start + 6)) _ (start + 6) (start + 7) _ _ (omega arith) (omega arith) (omega arith)
+    (rule-judged (BadContents (start + 6)) Accepted (start + 7) (start + 7) _ Nothing (omega arith) (omega arith) (omega arith) (accepted-judged _ _)
     (eqb size (bodyWords load count)) (eqb-true size (bodyWords load count)) (eq-eqb size (bodyWords load count)))
     (leb 1 count && leb count most) (between 1 count most) (between-test 1 count most)
 
@@ -68,10 +68,8 @@ Numbered place before number = Word place ((before < number) × (number ≤ 2147
 
 coordinator-judged : (place before number end : ℕ) → place < end → Judged (coordinatorRule place before number) place end (Numbered place before number)
 coordinator-judged place before number end room =
-    rule-judged (BadCoordinator place) Accepted place end _ Nothing (λ q. omega arith) (omega arith) room (accepted-judged place end)
-    (ltb before number && leb number 2147483647)
-    (λ h. let b = both (ltb before number) (leb number 2147483647) h in (ltb-true before number (b .0), leb-true number 2147483647 (b .1)))
-    (λ h. both-true _ _ (lt-ltb before number (h .0)) (le-leb number 2147483647 (h .1)))
+    rule-judged (BadCoordinator place) Accepted place end _ Nothing (omega arith) (omega arith) room (accepted-judged place end)
+    (ltb before number && leb number 2147483647) (above before number 2147483647) (above-test before number 2147483647)
 
 -- ---- the body
 

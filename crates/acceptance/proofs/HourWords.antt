@@ -20,7 +20,7 @@ Ranged place most number = Word place (number ≤ most) Nothing
 
 range-judged : (place most number end : ℕ) → place < end → Judged (rangeRule place most number) place end (Ranged place most number)
 range-judged place most number end room =
-    most-judged number most (OutOfRange place) Accepted place end Nothing (λ q. omega arith) (omega arith) room (accepted-judged place end)
+    most-judged number most (OutOfRange place) Accepted place end Nothing (omega arith) (omega arith) room (accepted-judged place end)
 
 abbrev PriceKept : ℕ → Type 0
 PriceKept price = missing price ≡ false → natAbs (signedOf price) ≤ 20000000
@@ -37,8 +37,8 @@ Paired place next quantity price = Word place (quantity ≤ 10000000) (Word next
 
 pair-judged : (place next quantity price end : ℕ) → place ≤ next → next < end → Judged (pairRule place next quantity price) place end (Paired place next quantity price)
 pair-judged place next quantity price end order room =
-    most-judged quantity 10000000 (OutOfRange place) _ next end _ (λ q. omega arith) order (omega arith)
-    (rule-judged (OutOfRange next) Accepted next end (PriceKept price) Nothing (λ q. omega arith) (omega arith) room (accepted-judged next end)
+    most-judged quantity 10000000 (OutOfRange place) _ next end _ (omega arith) order (omega arith)
+    (rule-judged (OutOfRange next) Accepted next end (PriceKept price) Nothing (omega arith) (omega arith) room (accepted-judged next end)
     (missing price || leb (natAbs (signedOf price)) 20000000)
     (λ h there. leb-true (natAbs (signedOf price)) 20000000 (price-test (missing price) _ h there))
     (λ h. price-kept (missing price) _ (λ there. le-leb (natAbs (signedOf price)) 20000000 (h there))))
@@ -48,8 +48,8 @@ Demanded place before demand = Word place (demand ≤ 100000000) (Word place (be
 
 demand-judged : (place before demand end : ℕ) → place < end → Judged (demandRule place before demand) place end (Demanded place before demand)
 demand-judged place before demand end room =
-    most-judged demand 100000000 (OutOfRange place) _ place end _ (λ q. omega arith) (omega arith) room
-    (most-judged (before + demand) 100000000 (RunningDemandTooLarge place) Accepted place end Nothing (λ q. omega arith) (omega arith) room (accepted-judged place end))
+    most-judged demand 100000000 (OutOfRange place) _ place end _ (omega arith) (omega arith) room
+    (most-judged (before + demand) 100000000 (RunningDemandTooLarge place) Accepted place end Nothing (omega arith) (omega arith) room (accepted-judged place end))
 
 -- ---- the hour that starts at word `at` of the body
 

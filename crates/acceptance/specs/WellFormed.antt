@@ -70,6 +70,12 @@ pub record FileKept (limits : Limits) (file : List ℕ) (p : ℕ) : Type 0 where
   -- the words of the bodies, which stand where the contents say: nothing is said of them before a word behind the contents stands before p
   pub body : (k : ℕ) → k < areasOf file → 4 + 3 * areasOf file < p → BodyKept (limits .points) (startAt file k) (bodyAt file k) (cisoBefore file k) p
 
+-- The first word that breaks its rule: every word before it keeps its own, and with it that no longer holds.
+pub record FirstBroken (limits : Limits) (file : List ℕ) (place : ℕ) : Type 0 where
+  pub inside : place < length file / 4
+  pub before : FileKept limits file place
+  pub broken : FileKept limits file (place + 1) → ⊥
+
 -- a length that a file may have: not "under 16 bytes, over 65,536, or no multiple of 4"
 pub record LengthKept (limits : Limits) (file : List ℕ) : Type 0 where
   pub least : 16 ≤ length file

@@ -13,7 +13,7 @@ use Rattle.dayfile.specs.File.{numberAt, startAt, sizeAt, numberBefore, 
 use Rattle.dayfile.specs.Check.{entryRule, entryOf, contentsRule}
 
 -- the end of a body lies within the file, and that of the last with the file
-within : (t : Bool) (end size : ℕ) → cond t (eqb end size) (leb end size) ≡ true → end ≤ size
+pub within : (t : Bool) (end size : ℕ) → cond t (eqb end size) (leb end size) ≡ true → end ≤ size
 within true end size h = let e : end ≡ size = eqb-true end size h in omega arith
 within false end size h = leb-true end size h
 

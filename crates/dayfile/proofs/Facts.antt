@@ -27,7 +27,7 @@ either : (a b : Bool) → (a || b) ≡ true → (a ≡ true) ⊎ (b ≡ true)
 either true b h = inl h
 either false b h = inr h
 
-known : (x a b : ℕ) → (eqb x a || eqb x b) ≡ true → (x ≡ a) ⊎ (x ≡ b)
+pub known : (x a b : ℕ) → (eqb x a || eqb x b) ≡ true → (x ≡ a) ⊎ (x ≡ b)
 known x a b h = ⊎-elim (λ p. inl (eqb-true x a p)) (λ p. inr (eqb-true x b p)) (either (eqb x a) (eqb x b) h)
 
 pub record Head (areas size edition day n peak : ℕ) : Type 0 where

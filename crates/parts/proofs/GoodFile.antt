@@ -1,4 +1,4 @@
--- A file of good parts keeps every rule of the check.
+-- A file of good parts keeps every rule of the check, and is accepted.
 use Prim.Native.Nat.{ℕ, zero, suc, _+_, _*_, _/_, _%_, _≤_, _<_}
 use mathlib.Core.Bool.{true, _&&_}
 use mathlib.Core.List.{List, [], _∷_}
@@ -14,12 +14,15 @@ use borrow.Author.Tests.{leb-true}
 use Rattle.words.specs.Word.{wordAt}
 use Rattle.limits.specs.declared.Limits.{Limits}
 use Rattle.calendar.specs.Date.{realDate}
+use Rattle.verdict.specs.Verdict.{numberOf}
 use Rattle.verdict.proofs.First.{both}
 use Rattle.body.specs.Layout.{kindOf}
 use Rattle.body.specs.Sound.{Sound}
 use Rattle.dayfile.specs.File.{numberAt, startAt, sizeAt, bodyAt, numberBefore, dueAt, cisoBefore}
+use Rattle.dayfile.specs.Check.{checkWithin}
 use Rattle.dayfile.proofs.Entries.{Entry}
 use Rattle.dayfile.proofs.Facts.{Head, Length}
+use Rattle.acceptance.proofs.SoundAccepted.{file-accepts}
 use Rattle.parts.specs.Bytes.{Below}
 use Rattle.parts.specs.FileOf.{Area, sizeOf, contentsOf, frontOf, fileOf}
 use Rattle.parts.specs.Good.{areaAt, wordsTo, cisoTo, numberTo, GoodArea, Good}
@@ -128,3 +131,6 @@ module _ (limits : Limits) (day peak : ℕ) (areas : List Area) (good : Good lim
 
     ciso-kept : cisoBefore file k + kindOf (bodyAt file k) ≤ 1
     ciso-kept = rw (ciso-before k (omega (arith, inside)), body-is day peak areas small k inside whole) (good .area k inside .one-ciso)
+
+  pub good-accepted : numberOf (checkWithin limits file) ≡ 0
+  good-accepted = file-accepts limits file length-kept head-kept entry-kept sound-kept ciso-kept

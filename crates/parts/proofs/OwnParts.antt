@@ -58,7 +58,7 @@ module _ (limits : Limits) (file : List ℕ) (accepted : numberOf (checkWithin l
   abbrev n : ℕ
   n = areasOf file
 
-  size-is : (k : ℕ) → k < n → sizeOf (areaOf file k) ≡ sizeAt file k
+  pub size-is : (k : ℕ) → k < n → sizeOf (areaOf file k) ≡ sizeAt file k
   size-is k h = omega (arith, body-length limits file accepted k h)
 
   start-is : (k : ℕ) → k < n → startAt file k ≡ dueAt file n k
@@ -101,7 +101,7 @@ module _ (limits : Limits) (file : List ℕ) (accepted : numberOf (checkWithin l
       ∙ take-append-drop (4 * sizeAt file k) (drop (4 * startAt file k) file)
       ∙ ap (λ start. drop (4 * start) file) here
 
-  areas-count : (k m : ℕ) → length (areasFrom file k m) ≡ m
+  pub areas-count : (k m : ℕ) → length (areasFrom file k m) ≡ m
   unfolding areasFrom
   areas-count k zero = refl
   areas-count k (suc m) = ap suc (areas-count (suc k) m)

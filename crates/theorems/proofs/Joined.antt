@@ -70,10 +70,10 @@ module _ (bound : ℕ) where
           let e : j ≡ length xs + (j - length xs) = omega (arith, p) in
           rw (e, getD-append-add xs ys (j - length xs) 0) (b .each (j - length xs) (omega (arith, p, length-append xs ys))))
 
-  below-front : (n : ℕ) (xs : List ℕ) → Below bound xs → Below bound (take n xs)
+  pub below-front : (n : ℕ) (xs : List ℕ) → Below bound xs → Below bound (take n xs)
   below-front n xs b = record { each = λ j h. let p = rw (length-take n xs) at h in rw (getD-take n xs j 0 (omega arith)) (b .each j (omega arith)) }
 
-  below-back : (n : ℕ) (xs : List ℕ) → Below bound xs → Below bound (drop n xs)
+  pub below-back : (n : ℕ) (xs : List ℕ) → Below bound xs → Below bound (drop n xs)
   below-back n xs b = record { each = λ j h. let p = rw (length-drop n xs) at h in rw (getD-drop n xs j 0) (b .each (n + j) (omega arith)) }
 
   pub below-cons : (x : ℕ) (xs : List ℕ) → x < bound → Below bound xs → Below bound (x ∷ xs)

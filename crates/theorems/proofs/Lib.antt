@@ -1,7 +1,9 @@
 pub mod SameHours
-pub mod Settled
+pub mod SettledExactly
 pub mod MergedBody
 pub mod Merged
 pub mod Joined
 pub mod MergeWords
 pub mod MergeSound
+pub mod MergeAccepted
+pub mod Alone

@@ -15,7 +15,7 @@ use Rattle.surcharge.specs.Surcharge.{onPeakAmount, offPeakAmount, downwardAmou
 use Rattle.statement.specs.Block.{block, hourBlock, chargesAt}
 use Rattle.settlement.specs.Settlement.{neededTo, settleOf}
 use Rattle.theorems.specs.Merge.{Merged, MergedFile}
-use Rattle.theorems.proofs.Settled.{HourSettled, Settled, settled-says, settled-accepts}
+use Rattle.theorems.proofs.SettledExactly.{HourSettled, Settled, settled-says, settled-accepts}
 use Rattle.theorems.proofs.MergedBody.{days-same, hour-settled-too, hour-merged}
 
 module _ (i n : ℕ) (file other : List ℕ) (m : MergedFile i n file other) where

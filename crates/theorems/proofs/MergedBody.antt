@@ -13,7 +13,7 @@ use Rattle.statement.proofs.Charges.{charges-shared}
 use Rattle.settlement.specs.Settlement.{chargeable}
 use Rattle.theorems.specs.Merge.{SameHours, demandsOf, Merged}
 use Rattle.theorems.proofs.SameHours.{kind-same, amount-same, on-peak-same, off-peak-same, downward-same, missing-same}
-use Rattle.theorems.proofs.Settled.{HourSettled}
+use Rattle.theorems.proofs.SettledExactly.{HourSettled}
 
 module _ (i n : ℕ) (body other : List ℕ) (m : Merged i n body other) where
   pub days-same : daysOf other ≡ daysOf body

@@ -1,1 +1,2 @@
 pub mod Merge
+pub mod Alone

@@ -1,0 +1,148 @@
+-- The file that is constructed with neighbours of the CISO area merged: it is accepted where the first is, and alike but for that.
+use Prim.Native.Nat.{ℕ, zero, suc, _+_, _*_, _/_, _≤_, _<_}
+use mathlib.Core.List.{List, [], _∷_, map}
+use mathlib.Core.Logic.{dite}
+use mathlib.Core.Path.{_≡_, refl, sym, ap, _∙_}
+use native.Mathlib.Decide.{ℕ-discrete}
+use native.Mathlib.Omega.{arith}
+use lib.ListN.{length, getD, take, drop, length-map}
+use borrow.Author.Tests.{eq-eqb, ne-eqb}
+use Rattle.limits.specs.Editions.{editionOne}
+use Rattle.verdict.specs.Verdict.{numberOf}
+use Rattle.body.specs.Layout.{kindOf, pointsOf, coordinatorsOf}
+use Rattle.body.specs.Sound.{Sound}
+use Rattle.dayfile.specs.File.{dayOf, peakOf, areasOf, numberAt, startAt, sizeAt, bodyAt}
+use Rattle.dayfile.specs.Check.{checkOf, checkWithin}
+use Rattle.dayfile.proofs.Facts.{file-sound}
+use Rattle.parts.specs.Bytes.{Below}
+use Rattle.parts.specs.FileOf.{Area, sizeOf, areaOf, areasFrom, frontOf, fileOf, partsOf}
+use Rattle.parts.specs.Good.{areaAt, Good}
+use Rattle.parts.proofs.FileOf.{Whole, day-there, peak-there, count-there, number-there, body-is}
+use Rattle.parts.proofs.GoodFile.{whole, small, good-accepted}
+use Rattle.parts.proofs.OwnParts.{areas-count}
+use Rattle.parts.proofs.OwnGood.{own-area, own-good, Replaced, replaced-good}
+use Rattle.theorems.specs.Merge.{Mergeable, Merged, MergedFile, mergedBody, mergedArea, merge}
+use Rattle.theorems.proofs.Joined.{below-front, below-back}
+use Rattle.theorems.proofs.MergeWords.{other-length, head-is, count-is, built}
+use Rattle.theorems.proofs.MergeSound.{merged-sound}
+
+map-at : (f : Area → Area) (areas : List Area) (k : ℕ) → k < length areas → areaAt (map f areas) k ≡ f (areaAt areas k)
+map-at f [] k h = absurd (omega arith)
+map-at f (area ∷ areas) zero h = refl
+map-at f (area ∷ areas) (suc k) h = map-at f areas k (omega arith)
+
+module _ (i n number : ℕ) (area : Area) where
+  area-merged : kindOf (area .body) ≡ 1 → mergedArea i n number area ≡ record { number = area .number; body = mergedBody i n number (area .body) }
+  area-merged e = rw (eq-eqb (kindOf (area .body)) 1 e)
+
+  area-kept : (kindOf (area .body) ≡ 1 → ⊥) → mergedArea i n number area ≡ area
+  area-kept e = rw (ne-eqb (kindOf (area .body)) 1 e)
+
+module _ (i n number : ℕ) (file : List ℕ) (accepted : numberOf (checkOf file) ≡ 0) (bytes : Below 256 file)
+    (mergeable : (k : ℕ) → k < areasOf file → kindOf (bodyAt file k) ≡ 1 → Mergeable i n number (bodyAt file k)) where
+  within : numberOf (checkWithin editionOne file) ≡ 0
+  unfolding checkOf
+  within = accepted
+
+  abbrev others : List Area
+  others = map (mergedArea i n number) (partsOf file)
+
+  body-bytes : (k : ℕ) → Below 256 (bodyAt file k)
+  body-bytes k = below-front 256 (4 * sizeAt file k) (drop (4 * startAt file k) file) (below-back 256 (4 * startAt file k) file bytes)
+
+  count-own : length (partsOf file) ≡ areasOf file
+  count-own = areas-count editionOne file within 0 (areasOf file)
+
+  there : (k : ℕ) → k < areasOf file → areaAt others k ≡ mergedArea i n number (areaOf file k)
+  there k h = map-at (mergedArea i n number) (partsOf file) k (omega (arith, h, count-own)) ∙ ap (mergedArea i n number) (own-area file k h)
+
+  module _ (k : ℕ) (below : k < areasOf file) where
+    abbrev body : List ℕ
+    body = bodyAt file k
+
+    sound : Sound (editionOne .points) body
+    sound = file-sound editionOne file within k below
+
+    replaced-ciso : kindOf body ≡ 1 → Replaced editionOne (areaOf file k) (record { number = numberAt file k; body = mergedBody i n number body })
+    replaced-ciso e =
+        let g = mergeable k below e in
+        let most = editionOne .points in
+        let long = other-length most i n number body g sound (body-bytes k) in
+        record {
+          number = refl;
+          kind = head-is most i n number body g sound (body-bytes k) 0 (omega arith);
+          whole = omega (arith, long);
+          least = omega (arith, long, sound .points .0, g .inside);
+          not-longer = omega (arith, long, sound .size, g .some);
+          sound = merged-sound most i n number body g sound (body-bytes k);
+        }
+
+    replaced-rest : Good editionOne (dayOf file) (peakOf file) (partsOf file) → Replaced editionOne (areaOf file k) (areaOf file k)
+    replaced-rest good =
+        let was = good .area k (omega (arith, count-own)) in
+        let e = own-area file k below in
+        record { number = refl; kind = refl; whole = rw e at (was .whole); least = rw e at (was .least); not-longer = omega arith; sound = sound }
+
+  good : Good editionOne (dayOf file) (peakOf file) others
+  good =
+      let own = own-good editionOne file within in
+      replaced-good editionOne (dayOf file) (peakOf file) (partsOf file) others (length-map (partsOf file) (mergedArea i n number)) (λ k h. by own k (omega (arith, h, count-own))) own
+    where
+      by : Good editionOne (dayOf file) (peakOf file) (partsOf file) → (k : ℕ) → k < areasOf file → Replaced editionOne (areaAt (partsOf file) k) (areaAt others k)
+      by own k h =
+          rw (own-area file k h, there k h)
+          (dite (ℕ-discrete (kindOf (bodyAt file k)) 1)
+          (λ e. rw (area-merged i n number (areaOf file k) e) (replaced-ciso k h e))
+          (λ e. rw (area-kept i n number (areaOf file k) e) (replaced-rest k h own)))
+
+  edition-bytes : editionOne .bytes ≤ 4294967296
+  unfolding editionOne
+  edition-bytes = omega arith
+
+  abbrev front : Below 4294967296 (frontOf (dayOf file) (peakOf file) others)
+  front = small editionOne (dayOf file) (peakOf file) others good edition-bytes
+
+  count-others : length others ≡ areasOf file
+  count-others = length-map (partsOf file) (mergedArea i n number) ∙ count-own
+
+  day-same : dayOf (merge i n number file) ≡ dayOf file
+  unfolding merge
+  day-same = day-there (dayOf file) (peakOf file) others front
+
+  peak-same : peakOf (merge i n number file) ≡ peakOf file
+  unfolding merge
+  peak-same = peak-there (dayOf file) (peakOf file) others front
+
+  areas-same : areasOf (merge i n number file) ≡ areasOf file
+  unfolding merge
+  areas-same = count-there (dayOf file) (peakOf file) others front ∙ count-others
+
+  number-same : (k : ℕ) → k < areasOf file → numberAt (merge i n number file) k ≡ numberAt file k
+  unfolding merge
+  number-same k h = number-there (dayOf file) (peakOf file) others front k (omega (arith, h, count-others)) ∙ ap (λ a. a .number) (there k h)
+
+  body-there : (k : ℕ) → k < areasOf file → bodyAt (merge i n number file) k ≡ mergedArea i n number (areaOf file k) .body
+  unfolding merge
+  body-there k h =
+      body-is (dayOf file) (peakOf file) others front k (omega (arith, h, count-others)) (whole editionOne (dayOf file) (peakOf file) others good edition-bytes)
+      ∙ ap (λ a. a .body) (there k h)
+
+  ciso-there : (k : ℕ) → k < areasOf file → kindOf (bodyAt file k) ≡ 1 → bodyAt (merge i n number file) k ≡ mergedBody i n number (bodyAt file k)
+  ciso-there k h e = body-there k h ∙ ap (λ a. a .body) (area-merged i n number (areaOf file k) e)
+
+  -- the file is accepted where the first is
+  pub merge-accepted : numberOf (checkOf (merge i n number file)) ≡ 0
+  unfolding merge checkOf
+  merge-accepted = good-accepted editionOne (dayOf file) (peakOf file) others good edition-bytes
+
+  -- and is the first file but that the neighbours are one
+  pub merge-merges : MergedFile i n file (merge i n number file)
+  merge-merges =
+      record {
+        day = day-same;
+        peak = peak-same;
+        areas = areas-same;
+        number = number-same;
+        ciso = λ k h e. rw (ciso-there k h e) (built (editionOne .points) i n number (bodyAt file k) (mergeable k h e) (sound k h) (body-bytes k));
+        rest = λ k h e. body-there k h ∙ ap (λ a. a .body) (area-kept i n number (areaOf file k) e);
+      }

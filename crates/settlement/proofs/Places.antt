@@ -2,14 +2,16 @@
 use Prim.Native.Nat.{ℕ, zero, suc, _+_, _*_, _/_, _≤_, _<_}
 use mathlib.Core.Bool.{not}
 use mathlib.Core.List.{List}
-use mathlib.Core.Logic.{⊎-elim}
+use mathlib.Core.Logic.{dite}
 use mathlib.Core.Path.{_≡_}
+use native.Mathlib.Decide.{ℕ-discrete, decLe}
 use native.Mathlib.Omega.{arith}
 use lib.Dec.{eqb, leb}
 use lib.ListN.{length, getD}
 use Rattle.limits.specs.Editions.{editionOne}
 use Rattle.verdict.specs.declared.Verdict.the-variants.{PriceWithoutQuantity, AmountWithoutDemand, RoomTooShort}
 use Rattle.verdict.specs.Verdict.{numberOf, placeOf}
+use Rattle.verdict.proofs.Accepted.{accepted-place}
 use Rattle.verdict.proofs.First.{PlaceWithin, accepted-within, rule-within, or-within, scan-within}
 use Rattle.body.specs.Layout.{kindOf, pointsOf, coordinatorsOf, hourAt, intervalsAt, demandsAt}
 use Rattle.body.specs.Check.{mostCoordinators}
@@ -18,7 +20,8 @@ use Rattle.body.proofs.Facts.{hour-inside}
 use Rattle.dayfile.specs.File.{areasOf, peakOf, startAt, sizeAt, bodyAt, cisoBefore}
 use Rattle.dayfile.specs.Check.{checkOf, checkWithin}
 use Rattle.dayfile.proofs.Facts.{file-length, file-head, file-entry, file-sound, file-one-ciso, body-length}
-use Rattle.dayfile.proofs.Places.{check-within}
+use Rattle.acceptance.specs.WellFormed.{FirstBroken, LengthKept}
+use Rattle.acceptance.proofs.Acceptance.{first-broken, length-exactly}
 use Rattle.surcharge.specs.Surcharge.{priceMissing}
 use Rattle.statement.specs.Block.{areaNumbers}
 use Rattle.settlement.specs.Settlement.{neededTo, numbersNeeded, chargeable, hourRule, hoursRule, areaRule, areasRule, acceptedRule, settleWith, settleOf}
@@ -83,11 +86,18 @@ module _ (file : List ℕ) (accepted : numberOf (checkOf file) ≡ 0) where
       rule-within 16384 (leb (numbersNeeded file) room) (RoomTooShort (numbersNeeded file)) _ (omega (arith, needed-most))
       (scan-within 16384 (areaRule days file) (areasOf file) (λ k p. hours-within (peakOf file) (getD days k 0) k p))
 
-check-small : (file : List ℕ) → PlaceWithin 16384 (checkOf file)
-unfolding checkOf editionOne
-check-small file = check-within editionOne file 16384 (λ h. omega (arith, h))
+-- the check's place is that of a word of the file, which is not too long; 0 where there is none
+check-small : (file : List ℕ) → placeOf (checkOf file) ≤ 16384
+unfolding editionOne
+check-small file =
+    let v = checkOf file in
+    dite (ℕ-discrete (numberOf v) 0) (λ z. omega (arith, accepted-place v z))
+    (λ z. dite (ℕ-discrete (numberOf v) 1)
+    (λ y. omega (arith, length-exactly file .1 (length-exactly file .0 y) .1))
+    (λ y. dite (decLe (placeOf v) 16384) (λ small. small)
+    (λ large. absurd (y (length-exactly file .1 (λ l. omega (arith, large, l .most, first-broken file z y .inside)) .0)))))
 
 -- so number × 1,000,000 + place can be taken apart again
 pub settle-place : (days file : List ℕ) (room : ℕ) → placeOf (settleWith days file room) ≤ 16384
 unfolding settleWith
-settle-place days file room = or-within 16384 (checkOf file) (acceptedRule days file room) (check-small file) (λ z. accepted-rule-within file z days room) .bound
+settle-place days file room = or-within 16384 (checkOf file) (acceptedRule days file room) (record { bound = check-small file }) (λ z. accepted-rule-within file z days room) .bound

@@ -72,15 +72,10 @@ module _ (most : ℕ) where
   pub accepted-within : PlaceWithin most Accepted
   accepted-within = record { bound = omega arith }
 
-  -- the rest is judged where the test holds
-  pub guard-within : (test : Bool) (refusal rest : Verdict) → placeOf refusal ≤ most → (test ≡ true → PlaceWithin most rest)
-      → PlaceWithin most (rule test else refusal then rest)
-  guard-within true refusal rest a b = b refl
-  guard-within false refusal rest a b = record { bound = a }
-
   pub rule-within : (test : Bool) (refusal rest : Verdict) → placeOf refusal ≤ most → PlaceWithin most rest
       → PlaceWithin most (rule test else refusal then rest)
-  rule-within test refusal rest a b = guard-within test refusal rest a (λ _. b)
+  rule-within true refusal rest a b = b
+  rule-within false refusal rest a b = record { bound = a }
 
   pub or-within : (first second : Verdict) → PlaceWithin most first → (numberOf first ≡ 0 → PlaceWithin most second)
       → PlaceWithin most (first orElse second)

@@ -1,8 +1,8 @@
 -- The words of a body, each judged by its rule.
-use Prim.Native.Nat.{ℕ, suc, _+_, _*_, _/_, _≤_, _<_, zero-le}
-use mathlib.Core.Bool.{Bool, true, false, _&&_, _||_}
+use Prim.Native.Nat.{ℕ, suc, _+_, _/_, _≤_, _<_, zero-le}
+use mathlib.Core.Bool.{_&&_}
 use mathlib.Core.List.{List}
-use mathlib.Core.Path.{_≡_, refl, sym}
+use mathlib.Core.Path.{_≡_, refl}
 use native.Mathlib.Numerals.{add-one}
 use native.Mathlib.Omega.{arith}
 use lib.Dec.{leb, ltb, eqb}
@@ -11,15 +11,14 @@ use lib.ListN.{length}
 use borrow.Author.Tests.{eqb-true, eq-eqb}
 use Rattle.words.specs.Word.{wordAt, signedOf}
 use Rattle.limits.specs.declared.Limits.{Limits}
-use Rattle.verdict.specs.Verdict.{numberOf}
 use Rattle.verdict.specs.declared.Verdict.the-variants.{Accepted, BadContents, BadBodyHead, BadCoordinator}
 use Rattle.body.specs.Layout.{bodyWords, hourWords, hourStart, coordinatorBefore}
-use Rattle.body.specs.Check.{mostCoordinators, headRule, countRule, coordinatorRule, headOf, frontRule, coordinatorOf, coordinatorsRule, hourRule, hourOf, hoursRule, bodyRule}
+use Rattle.body.specs.Check.{mostCoordinators, headRule, countRule, coordinatorRule, headOf, frontRule, coordinatorOf, coordinatorsRule, hourOf, hoursRule, bodyRule}
 use Rattle.body.proofs.HourPlaces.{hour-next}
 use Rattle.body.proofs.Rules.{front-size}
 use Rattle.acceptance.specs.WellFormed.{BodyKept}
 use Rattle.acceptance.proofs.Tests.{between, between-test, above, above-test}
-use Rattle.acceptance.proofs.Judged.{Judged, Nothing, Word, Both, Each, none, _then_, _and_, for-each, accepted-judged, rule-judged, most-judged, or-judged, and-judged, scan-judged, judged-as, judged-accepts}
+use Rattle.acceptance.proofs.Judged.{Judged, Nothing, Word, Both, Each, none, _then_, _and_, for-each, accepted-judged, rule-judged, most-judged, or-judged, and-judged, scan-judged, judged-as}
 use Rattle.acceptance.proofs.HourWords.{Hour, hour-judged}
 
 -- ---- the rules of the head
@@ -116,6 +115,7 @@ module _ (start : ℕ) (body : List ℕ) where
         _ _ (omega (arith, first-hour)) (omega (arith, behind-hours))
 
   module _ (limits : Limits) (ciso : ℕ) where
+    -- the words of the body in file order
     abbrev Words : ℕ → Type 0
     Words = Both (Front (limits .points) ciso) (Both (Each 0 (wordAt body 6) Coordinator) (Each 0 24 (HourOf (wordAt body 5) (wordAt body 6))))
 
@@ -126,8 +126,19 @@ module _ (start : ℕ) (body : List ℕ) where
         or-judged _ _ _ (start + 7) _ _ _ (omega arith) (omega arith) (front-judged (limits .points) ciso) (behind .early)
         (λ z. rw (front-size start body (limits .points) ciso z) behind)
 
-    there : (p : ℕ) → Words p → BodyKept (limits .points) start body ciso p
-    there p k =
+    -- they are the words of which `BodyKept` speaks
+    kept-words : (p : ℕ) → BodyKept (limits .points) start body ciso p → Words p
+    kept-words p k =
+        (((λ g. k .kind g .0) then (λ g. k .kind g .1) then k .flag then k .days then k .hub-a then k .hub-b then k .points then none)
+        and (λ g. (k .coordinators g .0, k .coordinators g .1)) then (λ g. k .coordinators g .2) then none)
+        and for-each (λ i l. k .coordinator i l then none)
+        and for-each (λ h l.
+        (for-each (λ i m. k .deficiency h i l m then none) and k .requirement h l then none and k .mec h l then none)
+        and for-each (λ i m. k .quantity h i l m then k .price h i l m then none)
+        and for-each (λ i m. (λ g. k .demand h i l m g .0) then (λ g. k .demand h i l m g .1) then none))
+
+    words-kept : (p : ℕ) → Words p → BodyKept (limits .points) start body ciso p
+    words-kept p k =
         let head = k .first .first in
         let count = k .first .second in
         let hour : (h : ℕ) → h < 24 → HourOf (wordAt body 5) (wordAt body 6) h p = λ h l. k .second .second .each h zero-le l in
@@ -148,15 +159,5 @@ module _ (start : ℕ) (body : List ℕ) where
           demand = λ h i l m g. let d = hour h l .second .second .each i zero-le m in (d .here g, d .rest .here g);
         }
 
-    back : (p : ℕ) → BodyKept (limits .points) start body ciso p → Words p
-    back p k =
-        (((λ g. k .kind g .0) then (λ g. k .kind g .1) then k .flag then k .days then k .hub-a then k .hub-b then k .points then none)
-        and (λ g. (k .coordinators g .0, k .coordinators g .1)) then (λ g. k .coordinators g .2) then none)
-        and for-each (λ i l. k .coordinator i l then none)
-        and for-each (λ h l.
-        (for-each (λ i m. k .deficiency h i l m then none) and k .requirement h l then none and k .mec h l then none)
-        and for-each (λ i m. k .quantity h i l m then k .price h i l m then none)
-        and for-each (λ i m. (λ g. k .demand h i l m g .0) then (λ g. k .demand h i l m g .1) then none))
-
     pub body-judged : 7 ≤ length body / 4 → Judged (bodyRule start body limits ciso) start (start + length body / 4) (BodyKept (limits .points) start body ciso)
-    body-judged some = judged-as _ _ _ Words _ there back (words-judged some)
+    body-judged some = judged-as _ _ _ Words _ words-kept kept-words (words-judged some)

@@ -7,7 +7,7 @@ use mathlib.Core.Path.{_≡_, refl, sym}
 use native.Mathlib.Omega.{arith}
 use lib.Dec.{leb, ltb, eqb}
 use lib.ListN.{length}
-use borrow.Author.Tests.{leb-true, le-leb, eqb-true, eq-eqb, eqb-false}
+use borrow.Author.Tests.{leb-true, le-leb, eqb-true, eq-eqb}
 use Rattle.exact.proofs.Lending.{part-length}
 use Rattle.words.specs.Word.{wordAt}
 use Rattle.limits.specs.declared.Limits.{Limits}
@@ -157,6 +157,7 @@ module _ (limits : Limits) (file : List ℕ) where
   abbrev n : ℕ
   n = wordAt file 2
 
+  -- the words of the file in file order
   abbrev Words : ℕ → Type 0
   Words =
       Both (HeadWords (limits .areas) words (wordAt file 0) (wordAt file 1) n (wordAt file 3))
@@ -172,8 +173,15 @@ module _ (limits : Limits) (file : List ℕ) where
       or-judged _ _ _ (4 + 3 * n) _ _ _ (omega arith) room (contents-judged n) (λ p h. record { behind = λ g. absurd (omega arith) })
       (λ y. bodies-judged n y room))
 
-  there : (p : ℕ) → Words p → FileKept limits file p
-  there p k =
+  -- they are the words of which `FileKept` speaks
+  kept-words : (p : ℕ) → FileKept limits file p → Words p
+  kept-words p k =
+      (k .edition then k .day then k .areas then k .peak then none)
+      and for-each (λ i l. k .number i l then k .body-start i l then k .body-size i l then none)
+      and record { behind = λ g. for-each (λ i l. k .body i l g) }
+
+  words-kept : (p : ℕ) → Words p → FileKept limits file p
+  words-kept p k =
       let head = k .first in
       let entry : (i : ℕ) → i < n → EntryOf n i p = λ i l. k .second .first .each i zero-le l in
       record {
@@ -187,11 +195,5 @@ module _ (limits : Limits) (file : List ℕ) where
         body = λ i l g. k .second .second .behind g .each i zero-le l;
       }
 
-  back : (p : ℕ) → FileKept limits file p → Words p
-  back p k =
-      (k .edition then k .day then k .areas then k .peak then none)
-      and for-each (λ i l. k .number i l then k .body-start i l then k .body-size i l then none)
-      and record { behind = λ g. for-each (λ i l. k .body i l g) }
-
   pub file-judged : 4 ≤ words → Judged (headOf (limits .areas) file orElse contentsRule (limits .words) file n orElse bodiesRule limits file n) 0 words (FileKept limits file)
-  file-judged some = judged-as _ _ _ Words _ there back (words-judged some)
+  file-judged some = judged-as _ _ _ Words _ words-kept kept-words (words-judged some)

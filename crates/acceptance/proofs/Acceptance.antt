@@ -1,4 +1,4 @@
--- Theorem 1: what the check accepts, said with no order in it, and what a refusal says.
+-- What acceptance means, with no order of tests in it, and what a refusal says.
 use Prim.Native.Nat.{ℕ, _/_, _%_}
 use mathlib.Core.Bool.{Bool, true, false, _&&_}
 use mathlib.Core.List.{List}
@@ -24,6 +24,7 @@ use Rattle.acceptance.proofs.FileWords.{file-judged}
 -- ---- within given limits
 
 module _ (limits : Limits) (file : List ℕ) where
+  -- in bytes
   abbrev size : ℕ
   size = length file
 

@@ -27,6 +27,7 @@ use Rattle.acceptance.proofs.BodyWords.{body-judged}
 
 -- ---- the head
 
+-- one of two tests holds
 either-true : (a b : Bool) → (a ≡ true) ⊎ (b ≡ true) → (a || b) ≡ true
 either-true true b h = refl
 either-true false b h = ⊎-elim (λ e. absurd (true≢false (sym e))) (λ e. e) h

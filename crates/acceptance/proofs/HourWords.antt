@@ -22,6 +22,7 @@ range-judged : (place most number end : ℕ) → place < end → Judged (rangeRu
 range-judged place most number end room =
     most-judged number most (OutOfRange place) Accepted place end Nothing (omega arith) (omega arith) room (accepted-judged place end)
 
+-- missing, or in its range
 abbrev PriceKept : ℕ → Type 0
 PriceKept price = missing price ≡ false → natAbs (signedOf price) ≤ 20000000
 

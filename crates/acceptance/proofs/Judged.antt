@@ -162,6 +162,7 @@ judged-as verdict from end One Other there back judged =
       broken = λ r p h k. judged .broken r p h (back p k);
     }
 
+-- none of the words stands before the first, so nothing is lost where they are passed over until then
 pub behind-judged : (verdict : Verdict) (from end : ℕ) (Part : ℕ → Type 0) → Judged verdict from end Part → Judged verdict from end (Behind from Part)
 behind-judged verdict from end Part judged =
     judged-as verdict from end Part (Behind from Part) (λ p k. record { behind = λ g. k })

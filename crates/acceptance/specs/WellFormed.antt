@@ -67,10 +67,10 @@ pub record FileKept (limits : Limits) (file : List ℕ) (p : ℕ) : Type 0 where
   -- "A body has 800 to 2,951 words"; it ends within the file, "the last ending with the file"
   pub body-size : (k : ℕ) → k < areasOf file → 4 + 3 * k + 2 < p
       → (800 ≤ sizeAt file k) × (sizeAt file k ≤ limits .words) × (startAt file k + sizeAt file k ≤ length file / 4) × (k + 1 ≡ areasOf file → startAt file k + sizeAt file k ≡ length file / 4)
-  -- the words of the bodies, which stand where the contents say: nothing is said of them before a word behind the contents stands before p
+  -- the words of the bodies; they stand where the contents say, so nothing is said of them until a word behind the contents stands before p
   pub body : (k : ℕ) → k < areasOf file → 4 + 3 * areasOf file < p → BodyKept (limits .points) (startAt file k) (bodyAt file k) (cisoBefore file k) p
 
--- The first word that breaks its rule: every word before it keeps its own, and with it that no longer holds.
+-- The first word that breaks its rule: every word before it keeps its own, and it does not.
 pub record FirstBroken (limits : Limits) (file : List ℕ) (place : ℕ) : Type 0 where
   pub inside : place < length file / 4
   pub before : FileKept limits file place

@@ -12,7 +12,7 @@ use Rattle.dayfile.specs.File.{dayOf, areasOf, peakOf, numberAt, startAt, sizeA
 use Rattle.dayfile.specs.Check.{checkOf, checkWithin}
 use Rattle.dayfile.proofs.Facts.{file-length, file-head, file-entry, file-sound, body-length}
 use Rattle.parts.specs.Bytes.{Below}
-use Rattle.parts.specs.FileOf.{Area, sizeOf, areaOf, frontOf, partsOf}
+use Rattle.parts.specs.FileOf.{Area, sizeOf, areaOf, frontOf, fileOf, partsOf}
 use Rattle.parts.specs.Good.{areaAt, wordsTo, numberTo, cisoTo, GoodArea, Good}
 use Rattle.parts.proofs.FileOf.{day-there, peak-there, count-there, number-there, body-is}
 use Rattle.parts.proofs.GoodFile.{whole, small, good-accepted}
@@ -72,30 +72,29 @@ module _ (file : List ℕ) (k : ℕ) (accepted : numberOf (checkOf file) ≡ 0) 
   abbrev front : Below 4294967296 (frontOf (dayOf file) (peakOf file) single)
   front = small editionOne (dayOf file) (peakOf file) single good edition-bytes
 
+  alone-is : alone file k ≡ fileOf (dayOf file) (peakOf file) single
+  unfolding alone
+  alone-is = refl
+
   -- the file by itself is accepted
   pub alone-accepted : numberOf (checkOf (alone file k)) ≡ 0
-  unfolding alone checkOf
-  alone-accepted = good-accepted editionOne (dayOf file) (peakOf file) single good edition-bytes
+  unfolding checkOf
+  alone-accepted = rw alone-is (good-accepted editionOne (dayOf file) (peakOf file) single good edition-bytes)
 
   pub alone-day : dayOf (alone file k) ≡ dayOf file
-  unfolding alone
-  alone-day = day-there (dayOf file) (peakOf file) single front
+  alone-day = ap dayOf alone-is ∙ day-there (dayOf file) (peakOf file) single front
 
   pub alone-peak : peakOf (alone file k) ≡ peakOf file
-  unfolding alone
-  alone-peak = peak-there (dayOf file) (peakOf file) single front
+  alone-peak = ap peakOf alone-is ∙ peak-there (dayOf file) (peakOf file) single front
 
   pub alone-one : areasOf (alone file k) ≡ 1
-  unfolding alone
-  alone-one = count-there (dayOf file) (peakOf file) single front
+  alone-one = ap areasOf alone-is ∙ count-there (dayOf file) (peakOf file) single front
 
   pub alone-number : numberAt (alone file k) 0 ≡ numberAt file k
-  unfolding alone
-  alone-number = number-there (dayOf file) (peakOf file) single front 0 (omega arith)
+  alone-number = ap (λ f. numberAt f 0) alone-is ∙ number-there (dayOf file) (peakOf file) single front 0 (omega arith)
 
   pub alone-body : bodyAt (alone file k) 0 ≡ bodyAt file k
-  unfolding alone
-  alone-body = body-is (dayOf file) (peakOf file) single front 0 (omega arith) (whole editionOne (dayOf file) (peakOf file) single good edition-bytes)
+  alone-body = ap (λ f. bodyAt f 0) alone-is ∙ body-is (dayOf file) (peakOf file) single front 0 (omega arith) (whole editionOne (dayOf file) (peakOf file) single good edition-bytes)
 
   needed-one : neededTo (alone file k) 1 ≡ areaNumbers (coordinatorsOf (bodyAt (alone file k) 0))
   unfolding neededTo

@@ -1,0 +1,394 @@
+/* The same job as rse8080_settle, as a careful C programmer would write it: every check of document 01 in its order, one pass that
+ * looks for a refusal and writes nothing, one pass that writes. It is what the benchmark compares with, and is not proved. */
+#include "careful.h"
+
+#include <string.h>
+
+typedef struct {
+    const uint8_t *body;
+    uint32_t kind, flag, days, points, count;
+    int32_t hub;
+    uint32_t tier;   /* of the day */
+    uint32_t upward; /* M */
+} area_t;
+
+typedef struct {
+    int64_t on, off, down;
+} amounts_t;
+
+#define MISSING INT32_MIN
+#define REFUSED(number, place) ((uint64_t)(number) * 1000000u + (uint64_t)(place))
+
+static inline uint32_t word(const uint8_t *bytes, size_t i)
+{
+    uint32_t w;
+    memcpy(&w, bytes + 4 * i, 4);
+    return w;
+}
+
+static inline int within(uint32_t w, int32_t most)
+{
+    int32_t z = (int32_t)w;
+    return -most <= z && z <= most;
+}
+
+/* R(a / b), halves away from zero. */
+static inline int64_t rounded(int64_t a, int64_t b)
+{
+    int64_t q = a / b, r = a % b;
+    if (2 * (r < 0 ? -r : r) >= b) {
+        q += a < 0 ? -1 : 1;
+    }
+    return q;
+}
+
+static int real_date(uint32_t date)
+{
+    static const uint8_t lengths[12] = {31, 28, 31, 30, 31, 30, 31, 31, 30, 31, 30, 31};
+    uint32_t year = date / 10000, month = date / 100 % 100, day = date % 100;
+    uint32_t most;
+    if (year < 2000 || year > 2099 || month < 1 || month > 12) {
+        return 0;
+    }
+    most = lengths[month - 1];
+    if (month == 2 && ((year % 4 == 0 && year % 100 != 0) || year % 400 == 0)) {
+        most = 29;
+    }
+    return 1 <= day && day <= most;
+}
+
+static uint64_t check_hour(const uint8_t *body, size_t start, size_t at, uint32_t points, uint32_t count)
+{
+    size_t i, w = at;
+    uint32_t running = 0;
+    for (i = 0; i < 6; i++, w++) {
+        if (word(body, w) > 2500000) {
+            return REFUSED(9, start + w);
+        }
+    }
+    if (word(body, w) > 50000000) {
+        return REFUSED(9, start + w);
+    }
+    w++;
+    if (!within(word(body, w), 20000000)) {
+        return REFUSED(9, start + w);
+    }
+    w++;
+    for (i = 0; i < 12 * points; i++, w += 2) {
+        uint32_t price = word(body, w + 1);
+        if (word(body, w) > 10000000) {
+            return REFUSED(9, start + w);
+        }
+        if (!within(price, 20000000) && (int32_t)price != MISSING) {
+            return REFUSED(9, start + w + 1);
+        }
+    }
+    for (i = 0; i < count; i++, w++) {
+        uint32_t demand = word(body, w);
+        if (demand > 100000000) {
+            return REFUSED(9, start + w);
+        }
+        running += demand;
+        if (running > 100000000) {
+            return REFUSED(10, start + w);
+        }
+    }
+    return 0;
+}
+
+static uint64_t check_body(const uint8_t *body, size_t start, size_t size, uint32_t *ciso)
+{
+    uint32_t kind = word(body, 0), points = word(body, 5), count = word(body, 6), before = 0;
+    size_t i, at, hour;
+    if (kind > 1 || *ciso + kind > 1) {
+        return REFUSED(7, start);
+    }
+    *ciso += kind;
+    if (word(body, 1) > 1) {
+        return REFUSED(7, start + 1);
+    }
+    if (word(body, 2) > 30) {
+        return REFUSED(7, start + 2);
+    }
+    if (!within(word(body, 3), 200000)) {
+        return REFUSED(7, start + 3);
+    }
+    if (!within(word(body, 4), 200000)) {
+        return REFUSED(7, start + 4);
+    }
+    if (points < 1 || points > 2) {
+        return REFUSED(7, start + 5);
+    }
+    if (count < 1 || count > (kind == 0 ? 1 : 64)) {
+        return REFUSED(7, start + 6);
+    }
+    if (size != 7 + count + 24 * (8 + 24 * points + count)) {
+        return REFUSED(6, start + 6);
+    }
+    for (i = 0; i < count; i++) {
+        uint32_t number = word(body, 7 + i);
+        if (number <= before || number > INT32_MAX) {
+            return REFUSED(8, start + 7 + i);
+        }
+        before = number;
+    }
+    at = 7 + count;
+    for (hour = 0; hour < 24; hour++) {
+        uint64_t answer = check_hour(body, start, at, points, count);
+        if (answer != 0) {
+            return answer;
+        }
+        at += 8 + 24 * points + count;
+    }
+    return 0;
+}
+
+static uint64_t check(const uint8_t *file, size_t length)
+{
+    size_t size = length / 4, k, n, due;
+    uint32_t before = 0, ciso = 0;
+    if (length < 16 || length > 65536 || length % 4 != 0) {
+        return REFUSED(1, 0);
+    }
+    if (word(file, 0) != 1) {
+        return REFUSED(2, 0);
+    }
+    if (!real_date(word(file, 1))) {
+        return REFUSED(4, 1);
+    }
+    n = word(file, 2);
+    if (n < 1 || n > 8 || 4 + 3 * n > size) {
+        return REFUSED(3, 2);
+    }
+    if (word(file, 3) != 0 && word(file, 3) != 4194240) {
+        return REFUSED(5, 3);
+    }
+    due = 4 + 3 * n;
+    for (k = 0; k < n; k++) {
+        size_t at = 4 + 3 * k;
+        uint32_t number = word(file, at), start = word(file, at + 1), words = word(file, at + 2);
+        if (number <= before || number > INT32_MAX) {
+            return REFUSED(6, at);
+        }
+        before = number;
+        if (start != due) {
+            return REFUSED(6, at + 1);
+        }
+        if (words < 800 || words > 2951 || (k + 1 == n ? due + words != size : due + words > size)) {
+            return REFUSED(6, at + 2);
+        }
+        due += words;
+    }
+    for (k = 0; k < n; k++) {
+        size_t start = word(file, 5 + 3 * k);
+        uint64_t answer = check_body(file + 4 * start, start, word(file, 6 + 3 * k), &ciso);
+        if (answer != 0) {
+            return answer;
+        }
+    }
+    return 0;
+}
+
+static inline uint32_t upward_of(const uint8_t *hour)
+{
+    return word(hour, 0) + word(hour, 1) + word(hour, 2) + word(hour, 3);
+}
+
+static inline uint32_t tier_of(uint32_t upward, uint32_t requirement)
+{
+    if (upward == 0) {
+        return 0;
+    }
+    if (upward <= 10000 || 100 * (uint64_t)upward <= requirement) {
+        return 1;
+    }
+    return 2 * upward <= requirement ? 2 : 3;
+}
+
+static inline int peak_hour(uint32_t peak, size_t h)
+{
+    return peak != 0 && 6 <= h && h <= 21;
+}
+
+static area_t read_area(uint32_t peak, const uint8_t *body)
+{
+    area_t a;
+    int32_t hub_a = (int32_t)word(body, 3), hub_b = (int32_t)word(body, 4);
+    size_t h, width;
+    const uint8_t *hour;
+    a.body = body;
+    a.kind = word(body, 0);
+    a.flag = word(body, 1);
+    a.days = word(body, 2);
+    a.hub = hub_a < hub_b ? hub_b : hub_a;
+    a.points = word(body, 5);
+    a.count = word(body, 6);
+    a.tier = a.upward = 0;
+    width = 4 * (size_t)(8 + 24 * a.points + a.count);
+    hour = body + 4 * (size_t)(7 + a.count);
+    for (h = 0; h < 24; h++, hour += width) {
+        if (peak_hour(peak, h)) {
+            uint32_t upward = upward_of(hour), tier = tier_of(upward, word(hour, 6));
+            a.tier = tier > a.tier ? tier : a.tier;
+            a.upward = upward > a.upward ? upward : a.upward;
+        }
+    }
+    return a;
+}
+
+/* The load-weighted price; false where no quantity stands under it. */
+static int price_of(const uint8_t *pairs, size_t count, int64_t *price)
+{
+    int64_t value = 0;
+    uint32_t quantity = 0;
+    size_t i;
+    for (i = 0; i < count; i++) {
+        uint32_t q = word(pairs, 2 * i);
+        int32_t p = (int32_t)word(pairs, 2 * i + 1);
+        if (p != MISSING) {
+            value += (int64_t)q * p;
+            quantity += q;
+        }
+    }
+    if (quantity == 0) {
+        return 0;
+    }
+    *price = rounded(value, quantity);
+    return 1;
+}
+
+static inline int price_needed(const area_t *a, int peak, uint32_t tier)
+{
+    return a->flag == 1 && (peak ? a->tier >= 2 && tier == 0 : tier >= 2);
+}
+
+/* The three amounts of an hour; false where a needed price has no quantity under it. */
+static int amounts_of(const area_t *a, uint32_t peak_word, const uint8_t *hour, size_t h, amounts_t *amounts)
+{
+    int peak = peak_hour(peak_word, h);
+    uint32_t upward = upward_of(hour), tier = tier_of(upward, word(hour, 6)), downward;
+    int64_t price = 0;
+    amounts->on = amounts->off = amounts->down = 0;
+    if (a->flag != 1) {
+        return 1;
+    }
+    if (price_needed(a, peak, tier) && !price_of(hour + 32, 12 * (size_t)a->points, &price)) {
+        return 0;
+    }
+    if (peak && a->tier >= 2) {
+        int64_t surcharge = (int64_t)a->upward * a->hub * (a->tier == 2 ? 5 : 8) * (100 + (int64_t)a->days);
+        int64_t credit = tier == 0 ? (int64_t)a->upward * price * 4 : 0;
+        int64_t due = (surcharge < 0 ? 0 : surcharge) - credit;
+        amounts->on = due <= 0 ? 0 : rounded(due, 400000);
+    }
+    if (!peak && tier >= 2) {
+        int64_t due = (int64_t)upward * price * (tier == 2 ? 5 : 8);
+        amounts->off = due <= 0 ? 0 : rounded(due, 400000);
+    }
+    downward = word(hour, 4) + word(hour, 5);
+    if (downward > 10000) {
+        int64_t due = (int64_t)downward * (int32_t)word(hour, 7);
+        amounts->down = due >= 0 ? 0 : rounded(due, 100000);
+    }
+    return 1;
+}
+
+static uint32_t total_demand(const area_t *a, const uint8_t *demands)
+{
+    uint32_t total = 0, i;
+    for (i = 0; i < a->count; i++) {
+        total += word(demands, i);
+    }
+    return total;
+}
+
+static uint64_t check_amounts(uint32_t peak, const uint8_t *file, size_t n)
+{
+    size_t k, h;
+    for (k = 0; k < n; k++) {
+        size_t start = word(file, 5 + 3 * k);
+        area_t a = read_area(peak, file + 4 * start);
+        size_t width = 8 + 24 * (size_t)a.points + a.count, at = 7 + a.count;
+        for (h = 0; h < 24; h++, at += width) {
+            const uint8_t *hour = a.body + 4 * at, *demands = hour + 4 * (8 + 24 * (size_t)a.points);
+            uint32_t tier = tier_of(upward_of(hour), word(hour, 6));
+            amounts_t amounts;
+            int64_t price;
+            if (price_needed(&a, peak_hour(peak, h), tier) && !price_of(hour + 32, 12 * (size_t)a.points, &price)) {
+                return REFUSED(11, start + at + 8);
+            }
+            if (a.kind == 1 && total_demand(&a, demands) == 0) {
+                amounts_of(&a, peak, hour, h, &amounts);
+                if (amounts.on + amounts.off + amounts.down != 0) {
+                    return REFUSED(12, start + at + 8 + 24 * (size_t)a.points);
+                }
+            }
+        }
+    }
+    return 0;
+}
+
+static inline uint8_t *put(uint8_t *to, int64_t number)
+{
+    memcpy(to, &number, 8);
+    return to + 8;
+}
+
+static uint8_t *write_area(uint32_t peak, const uint8_t *body, uint8_t *to)
+{
+    area_t a = read_area(peak, body);
+    size_t width = 4 * (8 + 24 * (size_t)a.points + a.count), h;
+    const uint8_t *hour = body + 4 * (size_t)(7 + a.count);
+    for (h = 0; h < 24; h++, hour += width) {
+        amounts_t amounts;
+        int64_t amount;
+        amounts_of(&a, peak, hour, h, &amounts);
+        amount = amounts.on + amounts.off + amounts.down;
+        to = put(to, amounts.on);
+        to = put(to, amounts.off);
+        to = put(to, amounts.down);
+        if (a.kind == 1) {
+            const uint8_t *demands = hour + 4 * (8 + 24 * (size_t)a.points);
+            uint32_t total = total_demand(&a, demands), running = 0, i;
+            int64_t before = 0;
+            for (i = 0; i < a.count; i++) {
+                int64_t up_to = 0;
+                running += word(demands, i);
+                if (amount != 0) {
+                    up_to = rounded(amount * running, total);
+                }
+                to = put(to, up_to - before);
+                before = up_to;
+            }
+        } else {
+            to = put(to, amount);
+        }
+    }
+    return to;
+}
+
+uint64_t careful_settle(const uint8_t *file, size_t file_len, uint8_t *statement, size_t statement_len)
+{
+    uint64_t answer = check(file, file_len);
+    size_t needed = 0, n, k;
+    uint32_t peak;
+    if (answer != 0) {
+        return answer;
+    }
+    n = word(file, 2);
+    peak = word(file, 3);
+    for (k = 0; k < n; k++) {
+        needed += 24 * (3 + (size_t)word(file, word(file, 5 + 3 * k) + 6));
+    }
+    if (statement_len / 8 < needed) {
+        return REFUSED(13, needed);
+    }
+    answer = check_amounts(peak, file, n);
+    if (answer != 0) {
+        return answer;
+    }
+    for (k = 0; k < n; k++) {
+        statement = write_area(peak, file + 4 * (size_t)word(file, 5 + 3 * k), statement);
+    }
+    return 0;
+}

@@ -1,0 +1,80 @@
+#!/usr/bin/env python3
+"""The day files of the benchmark.
+
+    days.py FOLDER     writes them to FOLDER
+
+full       8 areas, CISO with 64 coordinators, 2 load points, failures in every hour
+ordinary   8 areas, CISO with 64 coordinators, 2 load points, failures in one hour in twenty
+smallest   one area with one coordinator and one load point, no failure
+refused    the full day, its last word broken
+areas-N    N areas of one coordinator, 2 load points, failures in every hour
+ciso-K     one CISO area of K coordinators, 2 load points, failures in every hour
+"""
+
+import random
+import sys
+from pathlib import Path
+
+sys.dont_write_bytecode = True  # running a tool leaves nothing behind in the repository
+sys.path.insert(0, str(Path(__file__).resolve().parent.parent / "tools"))
+
+import days
+
+OTHER = (0, 2, 1)
+
+
+def ciso(count):
+    return (1, 2, count)
+
+
+def day_of(seed, shapes, failing):
+    """A day of these shapes (kind, L, K), with failures in so many of a hundred hours."""
+    rng = random.Random(seed)
+    areas = []
+    for number, (kind, points, count) in enumerate(shapes):
+        hours = []
+        for _ in range(24):
+            pairs = [(rng.randrange(1, 500000), rng.randrange(-50000, 2000000)) for _ in range(12 * points)]
+            hour = days.Hour(pairs, [rng.randrange(1, 1500000) for _ in range(count)])
+            hour.requirement = 600000
+            hour.mec = -rng.randrange(1, 400000)
+            if rng.randrange(100) < failing:
+                hour.set_upward([rng.randrange(100000) for _ in range(4)])
+                hour.set_downward([rng.randrange(100000) for _ in range(2)])
+            hours.append(hour)
+        area = days.Area(101 + number, kind, points, list(range(1001, 1001 + count)), hours)
+        area.flag = 1
+        area.persistent_days = 3
+        area.hub_a, area.hub_b = 8000, 9550
+        areas.append(area)
+    return days.Day(days.DATE, days.PEAK_WORD, areas).to_bytes()
+
+
+def broken(file_bytes):
+    """Its last demand out of range."""
+    return file_bytes[:-4] + b"\xff\xff\xff\x7f"
+
+
+def all_days():
+    full = day_of(1, [ciso(64)] + 7 * [OTHER], 100)
+    yield "full", full
+    yield "ordinary", day_of(2, [ciso(64)] + 7 * [OTHER], 5)
+    yield "smallest", days.quiet_day([(0, 1, 1)]).to_bytes()
+    yield "refused", broken(full)
+    for count in range(1, 9):
+        yield "areas-%d" % count, day_of(3, count * [OTHER], 100)
+    for count in (1, 2, 4, 8, 16, 32, 64):
+        yield "ciso-%d" % count, day_of(4, [ciso(count)], 100)
+
+
+def main():
+    if len(sys.argv) != 2:
+        sys.exit("usage: days.py FOLDER")
+    folder = Path(sys.argv[1])
+    folder.mkdir(parents=True, exist_ok=True)
+    for name, file_bytes in all_days():
+        (folder / (name + ".day")).write_bytes(file_bytes)
+
+
+if __name__ == "__main__":
+    main()

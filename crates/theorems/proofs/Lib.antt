@@ -1,0 +1,4 @@
+pub mod Stands
+pub mod Shown
+pub mod Settled
+pub mod AddsUp

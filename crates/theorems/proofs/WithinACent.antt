@@ -1,13 +1,9 @@
 -- "In the CISO area, wherever there is demand, every charge is less than one cent from its exact share": "T × charge and A × D differ by less than T".
-use Prim.Native.Nat.{ℕ, zero, suc, _+_, _<_}
-use mathlib.Core.List.{List, []}
-use mathlib.Core.Logic.{⊎-elim}
-use mathlib.Core.Path.{_≡_, _∙_}
-use native.Mathlib.Nat.{eq-or-lt-of-le, le-of-suc-le-suc}
-use native.Mathlib.Omega.{arith}
+use Prim.Native.Nat.{ℕ, _+_, _<_}
+use mathlib.Core.List.{List}
+use mathlib.Core.Path.{_≡_}
 use lib.IntN.{ℤ, pos, natAbs}
-use lib.ListN.{length, getD, List·getD-append}
-use lib.Seq.{getD-at}
+use lib.ListN.{length, getD}
 use Rattle.verdict.specs.Verdict.{numberOf}
 use Rattle.words.specs.Word.{wordAt}
 use Rattle.body.specs.Layout.{kindOf, daysOf, coordinatorsOf, demandsAt, demandAt, runningDemand}
@@ -21,16 +17,8 @@ use Rattle.statement.proofs.Demands.{demand-total, demand-length}
 use Rattle.settlement.specs.Settlement.{settleOf}
 use Rattle.theorems.specs.Shown.{statementLeft, chargeShown}
 use Rattle.theorems.specs.Demand.{totalDemand}
+use Rattle.theorems.proofs.Demands.{demand-is}
 use Rattle.theorems.proofs.Shown.{charge-shown}
-
-demand-is : (body : List ℕ) (from n i : ℕ) → i < n → getD (demandList body from n) i 0 ≡ wordAt body (from + i)
-unfolding demandList
-demand-is body from zero i p = absurd (omega arith)
-demand-is body from (suc n) i p =
-    ⊎-elim
-    (λ (e : i ≡ n). rw e (getD-at (demandList body from n) (wordAt body (from + n)) [] 0 n (demand-length body from n)))
-    (λ (l : i < n). List·getD-append (demandList body from n) _ 0 i (omega (arith, demand-length body from n)) ∙ demand-is body from n i l)
-    (eq-or-lt-of-le (le-of-suc-le-suc p))
 
 shared-within-a-cent : (amount : ℤ) (body : List ℕ) (from count i : ℕ) → 0 < runningDemand body from count → i < count
     → natAbs (apart (runningDemand body from count) amount (getD (shares amount (demandList body from count)) i (pos 0)) (wordAt body (from + i))) < runningDemand body from count

@@ -5,3 +5,5 @@ pub mod AddsUp
 pub mod Demands
 pub mod WithinACent
 pub mod Turned
+pub mod FirstIndex
+pub mod SettledOrUntouched

@@ -7,3 +7,6 @@ pub mod WithinACent
 pub mod Turned
 pub mod FirstIndex
 pub mod SettledOrUntouched
+pub mod Alike
+pub mod ChangedBody
+pub mod MissingPrices

@@ -15,8 +15,9 @@ use Rattle.price.specs.declared.Average.{Average}
 use Rattle.price.proofs.MissingPrices.{missing-changes-nothing}
 use Rattle.surcharge.specs.Surcharge.{highest, upwardFrom, downwardFrom, upwardAt, tierAt, dayTier, dayUpward, hubPrice, priceFrom, priceAnswerAt, onPeakAmount, offPeakAmount, downwardAmount, amountAt, priceNeeded, priceMissing}
 use Rattle.statement.specs.Block.{chargesAt, hourBlock, hoursBlock, block}
-use Rattle.settlement.specs.Settlement.{chargeable, hourRule}
+use Rattle.settlement.specs.Settlement.{chargeable, hourRule, hoursRule}
 use Rattle.theorems.proofs.Demands.{charges-same}
+use Rattle.theorems.proofs.FirstIndex.{scan-same}
 
 -- word by word: the head, the eight numbers of each hour, its prices, its quantities where the price is there, its demands
 pub record Alike (body body′ : List ℕ) : Type 0 where
@@ -26,6 +27,17 @@ pub record Alike (body body′ : List ℕ) : Type 0 where
   pub quantity : (g m : ℕ) → m < 12 * pointsOf body
       → (missing (priceAt body g m) ≡ true) ⊎ (quantityAt body g m ≡ wordAt body′ (intervalsAt body g + 2 * m))
   pub demand : (g j : ℕ) → j < coordinatorsOf body → demandAt body g j ≡ wordAt body′ (demandsAt body g + j)
+
+-- as bodies are whose words are all the same
+pub same-alike : (body body′ : List ℕ) → ((j : ℕ) → wordAt body j ≡ wordAt body′ j) → Alike body body′
+same-alike body body′ same =
+    record {
+      head = λ j p. same j;
+      number = λ g o p. same _;
+      price = λ g m p. same _;
+      quantity = λ g m p. inr (same _);
+      demand = λ g j p. same _;
+    }
 
 -- ---- an average over intervals that differ at most in quantities whose price is missing
 
@@ -62,7 +74,7 @@ module _ (body body′ : List ℕ) (alike : Alike body body′) where
   points : pointsOf body ≡ pointsOf body′
   points = alike .head 5 (omega arith)
 
-  coordinators : coordinatorsOf body ≡ coordinatorsOf body′
+  pub coordinators : coordinatorsOf body ≡ coordinatorsOf body′
   coordinators = alike .head 6 (omega arith)
 
   module _ (g : ℕ) where
@@ -175,3 +187,7 @@ module _ (body body′ : List ℕ) (alike : Alike body body′) where
     pub rule-same : (days start g : ℕ) → hourRule peak days start body g ≡ hourRule peak days start body′ g
     unfolding hourRule
     rule-same days start g = rw (price-missing g, chargeable-same days g, demands g, at g)
+
+    pub hours-rule-same : (days start : ℕ) → hoursRule peak days start body ≡ hoursRule peak days start body′
+    unfolding hoursRule
+    hours-rule-same days start = scan-same _ _ 0 24 (λ g _. rule-same days start g)

@@ -10,3 +10,5 @@ pub mod SettledOrUntouched
 pub mod Alike
 pub mod ChangedBody
 pub mod MissingPrices
+pub mod AlikeFiles
+pub mod ChangedFile

@@ -64,7 +64,7 @@ unfolding fileDays
 days-length file zero = refl
 days-length file (suc n) = length-append (fileDays file n) _ ∙ omega (arith, days-length file n)
 
-days-last : (file : List ℕ) (n : ℕ) → getD (fileDays file n ++ (daysOf (bodyAt file n) ∷ [])) n 0 ≡ daysOf (bodyAt file n)
+pub days-last : (file : List ℕ) (n : ℕ) → getD (fileDays file n ++ (daysOf (bodyAt file n) ∷ [])) n 0 ≡ daysOf (bodyAt file n)
 days-last file n =
     ap (λ i. getD (fileDays file n ++ (daysOf (bodyAt file n) ∷ [])) i 0) (sym (days-length file n) ∙ sym (add-zero (length (fileDays file n))))
     ∙ getD-append-add (fileDays file n) (daysOf (bodyAt file n) ∷ []) 0 0

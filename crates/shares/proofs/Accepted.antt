@@ -36,11 +36,11 @@ pub record Accepted (amount : ℤ) (demands : List ℕ) (room : ℕ) : Type 0 wh
   pub room-enough : length demands ≤ room
   pub demand-some : (amount ≡ pos 0) ⊎ (0 < total demands)
 
-either : (a b : Bool) → (a || b) ≡ true → (a ≡ true) ⊎ (b ≡ true)
+pub either : (a b : Bool) → (a || b) ≡ true → (a ≡ true) ⊎ (b ≡ true)
 either true b h = inl refl
 either false b h = inr h
 
-zero-is : (z : ℤ) → natAbs z ≡ 0 → z ≡ pos 0
+pub zero-is : (z : ℤ) → natAbs z ≡ 0 → z ≡ pos 0
 zero-is (pos zero) e = refl
 zero-is (pos (suc n)) e = absurd (omega arith)
 zero-is (negsuc n) e = absurd (omega arith)

@@ -7,3 +7,17 @@ pub mod MergeWords
 pub mod MergeSound
 pub mod MergeAccepted
 pub mod Alone
+pub mod Stands
+pub mod Shown
+pub mod Settled
+pub mod AddsUp
+pub mod Demands
+pub mod WithinACent
+pub mod Turned
+pub mod FirstIndex
+pub mod SettledOrUntouched
+pub mod Alike
+pub mod ChangedBody
+pub mod MissingPrices
+pub mod AlikeFiles
+pub mod ChangedFile

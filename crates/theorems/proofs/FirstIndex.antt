@@ -1,0 +1,73 @@
+-- A scan that refuses answers what the first index answers whose part refuses; and such an index, where there is one, decides the scan.
+use Prim.Native.Nat.{ℕ, zero, suc, _+_, _≤_, _<_}
+use mathlib.Core.Logic.{⊎-elim, dite}
+use mathlib.Core.Path.{_≡_, refl, sym, ap, ap₂, _∙_}
+use native.Mathlib.Decide.{ℕ-discrete}
+use native.Mathlib.Nat.{eq-or-lt-of-le}
+use native.Mathlib.Omega.{arith}
+use Rattle.verdict.specs.declared.Verdict.{Verdict}
+use Rattle.verdict.specs.Verdict.{numberOf}
+use Rattle.verdict.specs.First.{_orElse_, scan}
+use Rattle.verdict.proofs.First.{seq-stop, seq-next}
+use Rattle.theorems.specs.Refused.{Refuses}
+
+-- of the parts k, k + 1, .., n of them, part i is the first that refuses
+pub record First (part : ℕ → Verdict) (k n i : ℕ) : Type 0 where
+  pub from : k ≤ i
+  pub below : i < k + n
+  pub refuses : Refuses (part i)
+  pub before : (j : ℕ) → k ≤ j → j < i → numberOf (part j) ≡ 0
+
+pub stops : (first second : Verdict) → Refuses first → (first orElse second) ≡ first
+stops first second r = sym (seq-stop _ first second first _ refl refl refl r)
+
+pub passes : (first second : Verdict) → numberOf first ≡ 0 → (first orElse second) ≡ second
+passes first second z = seq-next _ first second first _ refl refl refl z
+
+-- a first index decides
+pub first-decides : (part : ℕ → Verdict) (k n i : ℕ) → First part k n i → scan part k n ≡ part i
+unfolding scan
+first-decides part k zero i f = absurd (omega (arith, f .from, f .below))
+first-decides part k (suc n) i f =
+    ⊎-elim
+    (λ (e : k ≡ i). stops (part k) _ (rw e (f .refuses)) ∙ ap part e)
+    (λ (l : k < i).
+    passes (part k) _ (f .before k (omega arith) l)
+    ∙ first-decides part (suc k) n i
+    (record { from = l; below = omega (arith, f .below); refuses = f .refuses; before = λ j p q. f .before j (omega arith) q }))
+    (eq-or-lt-of-le (f .from))
+
+-- it is the first with a part more in front that accepts
+one-more : (part : ℕ → Verdict) (k n i : ℕ) → numberOf (part k) ≡ 0 → First part (suc k) n i → First part k (suc n) i
+one-more part k n i z f =
+    record {
+      from = omega (arith, f .from);
+      below = omega (arith, f .below);
+      refuses = f .refuses;
+      before = λ j p q. ⊎-elim (λ (e : k ≡ j). rw (← e) z) (λ (l : k < j). f .before j l q) (eq-or-lt-of-le p);
+    }
+
+-- and a scan that refuses has one
+pub first-of : (part : ℕ → Verdict) (k n : ℕ) → Refuses (scan part k n) → (i : ℕ) × First part k n i
+unfolding scan
+first-of part k zero r = absurd (r refl)
+first-of part k (suc n) r =
+    dite (ℕ-discrete (numberOf (part k)) 0)
+    (λ z.
+    let later = first-of part (suc k) n (λ q. r (ap numberOf (passes (part k) _ z) ∙ q)) in
+    (later .0, one-more part k n (later .0) z (later .1)))
+    (λ refuses.
+    (k, record { from = omega arith; below = omega arith; refuses = refuses; before = λ j p q. absurd (omega arith) }))
+
+-- so a scan whose parts all accept accepts
+pub all-accept : (part : ℕ → Verdict) (n : ℕ) → ((i : ℕ) → i < n → numberOf (part i) ≡ 0) → numberOf (scan part 0 n) ≡ 0
+all-accept part n each =
+    dite (ℕ-discrete (numberOf (scan part 0 n)) 0)
+    (λ z. z)
+    (λ r. let found = first-of part 0 n r in absurd (found .1 .refuses (each (found .0) (omega (arith, found .1 .below)))))
+
+-- scans whose parts are the same
+pub scan-same : (part part′ : ℕ → Verdict) (k n : ℕ) → ((i : ℕ) → i < k + n → part i ≡ part′ i) → scan part k n ≡ scan part′ k n
+unfolding scan
+scan-same part part′ k zero same = refl
+scan-same part part′ k (suc n) same = ap₂ _orElse_ (same k (omega arith)) (scan-same part part′ (suc k) n (λ i p. same i (omega arith)))

@@ -1,0 +1,36 @@
+-- What a statement shows, read off its numbers by their positions: areas in file order, each 24 hours of on-peak amount, off-peak amount, downward amount
+-- and K charges.
+use Prim.Native.Nat.{ℕ, _+_, _*_}
+use mathlib.Core.List.{List}
+use lib.IntN.{ℤ, pos}
+use lib.ListN.{length, getD, take, drop}
+use Rattle.body.specs.Layout.{coordinatorsOf}
+use Rattle.dayfile.specs.File.{bodyAt}
+use Rattle.settlement.specs.Settlement.{neededTo, settleOf, after}
+
+-- the statement that `settle` leaves of the one that was lent
+abbrev pub statementLeft : List ℕ → List ℤ → List ℤ
+statementLeft file statement = after (settleOf file (length statement)) file statement
+
+module _ (file : List ℕ) (k h : ℕ) where
+  -- the first number of hour h of area k: behind the numbers of the areas before it, and h hours of 3 + K numbers
+  unfoldable pub placeOfHour : ℕ
+  placeOfHour = neededTo file k + h * (3 + coordinatorsOf (bodyAt file k))
+
+  module _ (statement : List ℤ) where
+    abbrev pub onPeakShown : ℤ
+    onPeakShown = getD statement placeOfHour (pos 0)
+
+    abbrev pub offPeakShown : ℤ
+    offPeakShown = getD statement (placeOfHour + 1) (pos 0)
+
+    abbrev pub downwardShown : ℤ
+    downwardShown = getD statement (placeOfHour + 2) (pos 0)
+
+    -- the charge of coordinator i, from 0
+    abbrev pub chargeShown : ℕ → ℤ
+    chargeShown i = getD statement (placeOfHour + 3 + i) (pos 0)
+
+    -- the charges of the K coordinators
+    abbrev pub chargesShown : List ℤ
+    chargesShown = take (coordinatorsOf (bodyAt file k)) (drop (placeOfHour + 3) statement)

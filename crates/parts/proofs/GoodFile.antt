@@ -3,7 +3,7 @@ use Prim.Native.Nat.{ℕ, zero, suc, _+_, _*_, _/_, _%_, _≤_, _<_}
 use mathlib.Core.Bool.{true, _&&_}
 use mathlib.Core.List.{List, [], _∷_}
 use mathlib.Core.Logic.{⊎-elim}
-use mathlib.Core.Path.{_≡_, refl, sym, ap, ap₂, _∙_}
+use mathlib.Core.Path.{_≡_, refl, ap, ap₂}
 use native.Mathlib.Decide.{le-ind}
 use native.Mathlib.Nat.{le-refl, le-trans}
 use native.Mathlib.Numerals.{add-one}
@@ -25,7 +25,7 @@ use Rattle.dayfile.proofs.Facts.{Head, Length}
 use Rattle.acceptance.proofs.SoundAccepted.{file-accepts}
 use Rattle.parts.specs.Bytes.{Below}
 use Rattle.parts.specs.FileOf.{Area, sizeOf, contentsOf, frontOf, fileOf}
-use Rattle.parts.specs.Good.{areaAt, wordsTo, cisoTo, numberTo, GoodArea, Good}
+use Rattle.parts.specs.Good.{areaAt, wordsTo, cisoTo, numberTo, Good}
 use Rattle.parts.proofs.FileOf.{words-shift, Whole, edition-there, day-there, count-there, peak-there, number-there, start-there, size-there, body-is, file-long}
 
 words-within : (areas : List Area) (k n : ℕ) → k < n → wordsTo areas k + sizeOf (areaAt areas k) ≤ wordsTo areas n

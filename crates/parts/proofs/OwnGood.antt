@@ -1,15 +1,15 @@
 -- The parts of an accepted file are good, and stay good where bodies are replaced by sound ones of the same kind that are not longer.
 use Prim.Native.Nat.{ℕ, zero, suc, _+_, _*_, _/_, _≤_, _<_}
-use mathlib.Core.List.{List, [], _∷_}
+use mathlib.Core.List.{List}
 use mathlib.Core.Path.{_≡_, refl, sym, ap, ap₂, _∙_}
 use native.Mathlib.Nat.{add-zero}
 use native.Mathlib.Omega.{arith}
-use lib.ListN.{length, getD}
+use lib.ListN.{length}
 use Rattle.limits.specs.declared.Limits.{Limits}
 use Rattle.verdict.specs.Verdict.{numberOf}
 use Rattle.body.specs.Layout.{kindOf}
 use Rattle.body.specs.Sound.{Sound}
-use Rattle.dayfile.specs.File.{dayOf, areasOf, peakOf, numberAt, startAt, sizeAt, numberBefore, dueAt, bodyAt, cisoBefore}
+use Rattle.dayfile.specs.File.{dayOf, areasOf, peakOf, numberBefore, dueAt, cisoBefore}
 use Rattle.dayfile.specs.Check.{checkWithin}
 use Rattle.dayfile.proofs.Facts.{file-length, file-head, file-entry, file-sound, file-one-ciso, body-length}
 use Rattle.parts.specs.FileOf.{Area, sizeOf, areaOf, areasFrom, partsOf}

@@ -13,7 +13,7 @@ use Rattle.dayfile.specs.File.{dayOf, areasOf, peakOf, numberAt, startAt, sizeA
 use Rattle.dayfile.specs.Check.{checkWithin}
 use Rattle.dayfile.proofs.Facts.{file-length, file-head, file-entry, body-length}
 use Rattle.parts.specs.Bytes.{wordBytes, wordsBytes, wordsFrom, Below}
-use Rattle.parts.specs.FileOf.{Area, sizeOf, contentsOf, bodiesOf, frontOf, fileOf, areaOf, areasFrom, partsOf}
+use Rattle.parts.specs.FileOf.{sizeOf, contentsOf, bodiesOf, frontOf, fileOf, areaOf, areasFrom, partsOf}
 
 -- ---- words and the bytes that they stand for
 

@@ -2,7 +2,7 @@
 use Prim.Native.Nat.{ℕ, zero, suc, _+_, _*_, _/_}
 use mathlib.Core.List.{List, [], _∷_, _++_}
 use lib.ListN.{length}
-use Rattle.dayfile.specs.File.{dayOf, peakOf, areasOf, numberAt, bodyAt}
+use Rattle.dayfile.specs.File.{areasOf, numberAt, bodyAt}
 use Rattle.parts.specs.Bytes.{wordsBytes}
 
 pub record Area : Type 0 where

@@ -6,7 +6,7 @@ use mathlib.Core.Logic.{dite}
 use mathlib.Core.Path.{_≡_}
 use native.Mathlib.Decide.{ℕ-discrete, decLe}
 use native.Mathlib.Omega.{arith}
-use lib.Dec.{eqb, leb}
+use lib.Dec.{leb}
 use lib.ListN.{length, getD}
 use Rattle.limits.specs.Editions.{editionOne}
 use Rattle.verdict.specs.declared.Verdict.the-variants.{PriceWithoutQuantity, AmountWithoutDemand, RoomTooShort}
@@ -15,16 +15,13 @@ use Rattle.verdict.proofs.Accepted.{accepted-place}
 use Rattle.verdict.proofs.First.{PlaceWithin, accepted-within, rule-within, or-within, scan-within}
 use Rattle.body.specs.Layout.{kindOf, pointsOf, coordinatorsOf, hourAt, intervalsAt, demandsAt}
 use Rattle.body.specs.Check.{mostCoordinators}
-use Rattle.body.specs.Sound.{Sound}
 use Rattle.body.proofs.Facts.{hour-inside}
-use Rattle.dayfile.specs.File.{areasOf, peakOf, startAt, sizeAt, bodyAt, cisoBefore}
+use Rattle.dayfile.specs.File.{areasOf, peakOf, startAt, bodyAt, cisoBefore}
 use Rattle.dayfile.specs.Check.{checkOf, checkWithin}
 use Rattle.dayfile.proofs.Facts.{file-length, file-head, file-entry, file-sound, file-one-ciso, body-length}
-use Rattle.acceptance.specs.WellFormed.{FirstBroken, LengthKept}
 use Rattle.acceptance.proofs.Acceptance.{first-broken, length-exactly}
 use Rattle.surcharge.specs.Surcharge.{priceMissing}
-use Rattle.statement.specs.Block.{areaNumbers}
-use Rattle.settlement.specs.Settlement.{neededTo, numbersNeeded, chargeable, hourRule, hoursRule, areaRule, areasRule, acceptedRule, settleWith, settleOf}
+use Rattle.settlement.specs.Settlement.{neededTo, numbersNeeded, chargeable, hourRule, hoursRule, areaRule, areasRule, acceptedRule, settleWith}
 
 -- K of an area is 1, and up to 63 more where it is CISO
 pub few-coordinators : (kind count : ℕ) → kind ≤ 1 → count ≤ mostCoordinators kind → count ≤ 1 + 63 * kind

@@ -1,19 +1,19 @@
 -- "areas on their own behave as document 01's order says": an area of a settled file, in a file by itself with the same day and peak hours, is settled, and
 -- its block is the block that it had.
-use Prim.Native.Nat.{ℕ, zero, suc, _+_, _*_, _/_, _≤_, _<_}
+use Prim.Native.Nat.{ℕ, zero, suc, _≤_, _<_}
 use mathlib.Core.List.{List, [], _∷_}
-use mathlib.Core.Path.{_≡_, refl, sym, ap, _∙_}
+use mathlib.Core.Path.{_≡_, refl, ap, _∙_}
 use native.Mathlib.Omega.{arith}
 use lib.ListN.{length}
 use Rattle.limits.specs.Editions.{editionOne}
 use Rattle.verdict.specs.Verdict.{numberOf}
-use Rattle.body.specs.Layout.{kindOf, daysOf, coordinatorsOf}
-use Rattle.dayfile.specs.File.{dayOf, areasOf, peakOf, numberAt, startAt, sizeAt, dueAt, bodyAt}
+use Rattle.body.specs.Layout.{daysOf, coordinatorsOf}
+use Rattle.dayfile.specs.File.{dayOf, areasOf, peakOf, numberAt, bodyAt}
 use Rattle.dayfile.specs.Check.{checkOf, checkWithin}
 use Rattle.dayfile.proofs.Facts.{file-length, file-head, file-entry, file-sound, body-length}
 use Rattle.parts.specs.Bytes.{Below}
-use Rattle.parts.specs.FileOf.{Area, sizeOf, areaOf, frontOf, fileOf, partsOf}
-use Rattle.parts.specs.Good.{areaAt, wordsTo, numberTo, cisoTo, GoodArea, Good}
+use Rattle.parts.specs.FileOf.{Area, areaOf, frontOf, fileOf}
+use Rattle.parts.specs.Good.{wordsTo, numberTo, cisoTo, GoodArea, Good}
 use Rattle.parts.proofs.FileOf.{day-there, peak-there, count-there, number-there, body-is}
 use Rattle.parts.proofs.GoodFile.{whole, small, good-accepted}
 use Rattle.parts.proofs.OwnParts.{size-is}
@@ -21,7 +21,7 @@ use Rattle.parts.proofs.OwnGood.{own-words}
 use Rattle.statement.specs.Block.{areaNumbers, block}
 use Rattle.settlement.specs.Settlement.{neededTo, numbersNeeded, settleOf}
 use Rattle.theorems.specs.Alone.{alone}
-use Rattle.theorems.proofs.SettledExactly.{HourSettled, Settled, settled-says, settled-accepts}
+use Rattle.theorems.proofs.SettledExactly.{HourSettled, settled-says, settled-accepts}
 
 module _ (file : List ℕ) (k : ℕ) (accepted : numberOf (checkOf file) ≡ 0) (below : k < areasOf file) where
   within : numberOf (checkWithin editionOne file) ≡ 0

@@ -1,29 +1,29 @@
 -- The file that is constructed with neighbours of the CISO area merged: it is accepted where the first is, and alike but for that.
-use Prim.Native.Nat.{ℕ, zero, suc, _+_, _*_, _/_, _≤_, _<_}
+use Prim.Native.Nat.{ℕ, zero, suc, _*_, _≤_, _<_}
 use mathlib.Core.List.{List, [], _∷_, map}
 use mathlib.Core.Logic.{dite}
-use mathlib.Core.Path.{_≡_, refl, sym, ap, _∙_}
+use mathlib.Core.Path.{_≡_, refl, ap, _∙_}
 use native.Mathlib.Decide.{ℕ-discrete}
 use native.Mathlib.Omega.{arith}
-use lib.ListN.{length, getD, take, drop, length-map}
+use lib.ListN.{length, drop, length-map}
 use borrow.Author.Tests.{eq-eqb, ne-eqb}
 use Rattle.limits.specs.Editions.{editionOne}
 use Rattle.verdict.specs.Verdict.{numberOf}
-use Rattle.body.specs.Layout.{kindOf, pointsOf, coordinatorsOf}
+use Rattle.body.specs.Layout.{kindOf}
 use Rattle.body.specs.Sound.{Sound}
 use Rattle.dayfile.specs.File.{dayOf, peakOf, areasOf, numberAt, startAt, sizeAt, bodyAt}
 use Rattle.dayfile.specs.Check.{checkOf, checkWithin}
 use Rattle.dayfile.proofs.Facts.{file-sound}
 use Rattle.parts.specs.Bytes.{Below}
-use Rattle.parts.specs.FileOf.{Area, sizeOf, areaOf, areasFrom, frontOf, fileOf, partsOf}
+use Rattle.parts.specs.FileOf.{Area, areaOf, frontOf, partsOf}
 use Rattle.parts.specs.Good.{areaAt, Good}
-use Rattle.parts.proofs.FileOf.{Whole, day-there, peak-there, count-there, number-there, body-is}
+use Rattle.parts.proofs.FileOf.{day-there, peak-there, count-there, number-there, body-is}
 use Rattle.parts.proofs.GoodFile.{whole, small, good-accepted}
 use Rattle.parts.proofs.OwnParts.{areas-count}
 use Rattle.parts.proofs.OwnGood.{own-area, own-good, Replaced, replaced-good}
-use Rattle.theorems.specs.Merge.{Mergeable, Merged, MergedFile, mergedBody, mergedArea, merge}
+use Rattle.theorems.specs.Merge.{Mergeable, MergedFile, mergedBody, mergedArea, merge}
 use Rattle.theorems.proofs.Joined.{below-front, below-back}
-use Rattle.theorems.proofs.MergeWords.{other-length, head-is, count-is, built}
+use Rattle.theorems.proofs.MergeWords.{other-length, head-is, built}
 use Rattle.theorems.proofs.MergeSound.{merged-sound}
 
 map-at : (f : Area → Area) (areas : List Area) (k : ℕ) → k < length areas → areaAt (map f areas) k ≡ f (areaAt areas k)

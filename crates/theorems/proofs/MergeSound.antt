@@ -1,17 +1,14 @@
 -- A sound body is sound with its neighbours merged.
-use Prim.Native.Nat.{ℕ, zero, suc, _+_, _*_, _-_, _/_, _≤_, _<_}
-use mathlib.Core.Bool.{false}
+use Prim.Native.Nat.{ℕ, zero, suc, _+_, _*_, _-_, _≤_, _<_}
 use mathlib.Core.List.{List}
 use mathlib.Core.Logic.{dite, ⊎-elim}
 use mathlib.Core.Path.{_≡_, refl, sym, ap, _∙_}
 use native.Mathlib.Decide.{decLt, le-ind}
-use native.Mathlib.Nat.{eq-or-lt-of-le, le-refl, le-trans, add-zero}
+use native.Mathlib.Nat.{eq-or-lt-of-le, le-refl, le-trans}
 use native.Mathlib.Omega.{arith}
-use lib.IntN.{natAbs}
-use lib.ListN.{length, getD}
-use Rattle.words.specs.Word.{wordAt, signedOf}
-use Rattle.body.specs.Layout.{missing, kindOf, pointsOf, coordinatorsOf, coordinatorAt, coordinatorBefore, bodyWords, hourAt, deficiencyAt, requirementAt, mecAt, intervalsAt, quantityAt, priceAt, demandsAt, demandAt, runningDemand}
-use Rattle.body.specs.Check.{mostCoordinators}
+use lib.ListN.{length}
+use Rattle.words.specs.Word.{wordAt}
+use Rattle.body.specs.Layout.{pointsOf, coordinatorsOf, coordinatorAt, coordinatorBefore, intervalsAt, priceAt, demandsAt, demandAt, runningDemand}
 use Rattle.body.specs.Sound.{Sound}
 use Rattle.body.proofs.Facts.{hour-demand}
 use Rattle.parts.specs.Bytes.{Below, wordsFrom}

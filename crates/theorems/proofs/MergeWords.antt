@@ -1,14 +1,12 @@
 -- What stands where in the body that is constructed with neighbours merged; it is one in which they are one.
-use Prim.Native.Nat.{ℕ, zero, suc, _+_, _*_, _-_, _≤_, _<_}
+use Prim.Native.Nat.{ℕ, suc, _+_, _*_, _-_, _≤_, _<_}
 use mathlib.Core.List.{List, [], _∷_, _++_, append-nil}
-use mathlib.Core.Logic.{⊎-elim}
 use mathlib.Core.Path.{_≡_, refl, sym, ap, ap₂, _∙_}
-use native.Mathlib.Nat.{add-zero, eq-or-lt-of-le, le-of-suc-le-suc}
 use native.Mathlib.Omega.{arith}
 use lib.ListN.{length, getD, take, drop, length-append, take-append-drop, List·getD-append}
 use lib.Seq.{getD-append-add, getD-at, ext-getD}
 use Rattle.words.specs.Word.{wordAt}
-use Rattle.body.specs.Layout.{kindOf, pointsOf, coordinatorsOf, hourWords, bodyWords, hourStart, hourAt, demandsAt, runningDemand}
+use Rattle.body.specs.Layout.{kindOf, pointsOf, coordinatorsOf, hourWords, bodyWords, hourStart, hourAt, demandsAt}
 use Rattle.body.specs.Sound.{Sound}
 use Rattle.body.proofs.Facts.{hour-demand}
 use Rattle.body.proofs.HourPlaces.{hour-room}
@@ -16,24 +14,15 @@ use Rattle.parts.specs.Bytes.{wordsBytes, wordsFrom, Below}
 use Rattle.parts.proofs.Words.{words-length, word-written, words-count, words-at, word-below}
 use Rattle.shares.specs.Shares.{total, mergedAt}
 use Rattle.shares.proofs.Totals.{total-append}
-use Rattle.statement.specs.Block.{demandList}
 use Rattle.statement.proofs.Demands.{demand-length, demand-total}
 use Rattle.settlement.proofs.Places.{few-coordinators}
-use Rattle.theorems.specs.Merge.{SameHours, Merged, Mergeable, demandsOf, joined, mergedFront, mergedHour, mergedBody}
+use Rattle.theorems.specs.Merge.{Merged, Mergeable, demandsOf, joined, mergedFront, mergedHour, mergedBody}
+use Rattle.theorems.proofs.Demands.{demand-is}
 use Rattle.theorems.proofs.Joined.{joined-length, joined-at, merged-length, below-append, below-cons, below-merged, below-joined}
 
 start-is : (points coordinators h : ℕ) → hourStart points coordinators h ≡ 7 + coordinators + h * hourWords points coordinators
 unfolding hourStart
 start-is points coordinators h = refl
-
-pub demand-at : (body : List ℕ) (from m j : ℕ) → j < m → getD (demandList body from m) j 0 ≡ wordAt body (from + j)
-unfolding demandList
-demand-at body from zero j h = absurd (omega arith)
-demand-at body from (suc m) j h =
-    ⊎-elim
-    (λ (e : j ≡ m). rw e (getD-at (demandList body from m) (wordAt body (from + m)) [] 0 m (demand-length body from m)))
-    (λ (l : j < m). List·getD-append (demandList body from m) (wordAt body (from + m) ∷ []) 0 j (omega (arith, demand-length body from m)) ∙ demand-at body from m j l)
-    (eq-or-lt-of-le (le-of-suc-le-suc h))
 
 -- a run of demands adds up to no more than all of them
 run-total : (i n : ℕ) (ds : List ℕ) → total (take n (drop i ds)) ≤ total ds
@@ -94,7 +83,7 @@ module _ (most i n number : ℕ) (body : List ℕ) (g : Mergeable i n number bod
 
   demands-below : (h : ℕ) → Below 4294967296 (demandsOf body h)
   demands-below h =
-      record { each = λ j p. let q = rw (demand-length body (demandsAt body h) count) at p in rw (demand-at body (demandsAt body h) count j q) (word-below body bytes (demandsAt body h + j)) }
+      record { each = λ j p. let q = rw (demand-length body (demandsAt body h) count) at p in rw (demand-is body (demandsAt body h) count j q) (word-below body bytes (demandsAt body h + j)) }
 
   few : count ≤ 64
   few = omega (arith, few-coordinators (kindOf body) count (sound .kind) (sound .coordinators .1), sound .kind)
@@ -167,7 +156,7 @@ module _ (most i n number : ℕ) (body : List ℕ) (g : Mergeable i n number bod
       let r : j < fewer = omega (arith, q, other-long, count-is) in
       let there : demandsAt other h + j ≡ hourAt other h + (8 + 24 * points + j) = omega (arith, head-is 5 (omega arith)) in
       let behind : 8 + 24 * points + j ≡ length front + j = omega (arith, front-long) in
-      demand-at other (demandsAt other h) (coordinatorsOf other) j (omega (arith, r, count-is))
+      demand-is other (demandsAt other h) (coordinatorsOf other) j (omega (arith, r, count-is))
       ∙ ap (wordAt other) there
       ∙ hour-is h (8 + 24 * points + j) p (omega (arith, r))
       ∙ ap (λ w. getD (mergedHour i n number body h) w 0) behind

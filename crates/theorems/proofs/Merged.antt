@@ -1,9 +1,9 @@
 -- "merged coordinators .. behave as document 01's order says": neighbouring coordinators of the CISO area replaced by one are charged, in every hour, what
 -- they were charged together; everybody else's charge, every amount and every other area's block are the same.
-use Prim.Native.Nat.{ℕ, zero, suc, _+_, _≤_, _<_}
+use Prim.Native.Nat.{ℕ, zero, suc, _≤_, _<_}
 use mathlib.Core.List.{List, _∷_}
 use mathlib.Core.Logic.{dite}
-use mathlib.Core.Path.{_≡_, refl, sym, ap, ap₂, _∙_}
+use mathlib.Core.Path.{_≡_, ap}
 use native.Mathlib.Decide.{ℕ-discrete}
 use native.Mathlib.Omega.{arith}
 use Rattle.verdict.specs.Verdict.{numberOf}
@@ -14,8 +14,8 @@ use Rattle.shares.specs.Shares.{sum, mergedAt}
 use Rattle.surcharge.specs.Surcharge.{onPeakAmount, offPeakAmount, downwardAmount}
 use Rattle.statement.specs.Block.{block, hourBlock, chargesAt}
 use Rattle.settlement.specs.Settlement.{neededTo, settleOf}
-use Rattle.theorems.specs.Merge.{Merged, MergedFile}
-use Rattle.theorems.proofs.SettledExactly.{HourSettled, Settled, settled-says, settled-accepts}
+use Rattle.theorems.specs.Merge.{MergedFile}
+use Rattle.theorems.proofs.SettledExactly.{HourSettled, settled-says, settled-accepts}
 use Rattle.theorems.proofs.MergedBody.{days-same, hour-settled-too, hour-merged}
 
 module _ (i n : ℕ) (file other : List ℕ) (m : MergedFile i n file other) where

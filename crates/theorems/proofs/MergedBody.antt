@@ -1,17 +1,17 @@
 -- A body in which neighbours are one: the same amounts, the same hours settled, and the neighbours' charges added.
-use Prim.Native.Nat.{ℕ, _+_, _<_}
+use Prim.Native.Nat.{ℕ, _<_}
 use mathlib.Core.List.{List, _∷_}
-use mathlib.Core.Path.{_≡_, refl, sym, ap, ap₂, _∙_}
+use mathlib.Core.Path.{_≡_, sym, ap, ap₂, _∙_}
 use native.Mathlib.Omega.{arith}
 use Rattle.body.specs.Layout.{kindOf, daysOf, coordinatorsOf, demandsAt, runningDemand}
 use Rattle.shares.specs.Shares.{total, sum, shares, mergedAt}
 use Rattle.shares.proofs.Merged.{merged, total-merged}
-use Rattle.surcharge.specs.Surcharge.{onPeakAmount, offPeakAmount, downwardAmount, amountAt, priceMissing}
+use Rattle.surcharge.specs.Surcharge.{onPeakAmount, offPeakAmount, downwardAmount, amountAt}
 use Rattle.statement.specs.Block.{chargesAt, hourBlock}
 use Rattle.statement.proofs.Demands.{demand-total}
 use Rattle.statement.proofs.Charges.{charges-shared}
 use Rattle.settlement.specs.Settlement.{chargeable}
-use Rattle.theorems.specs.Merge.{SameHours, demandsOf, Merged}
+use Rattle.theorems.specs.Merge.{demandsOf, Merged}
 use Rattle.theorems.proofs.SameHours.{kind-same, amount-same, on-peak-same, off-peak-same, downward-same, missing-same}
 use Rattle.theorems.proofs.SettledExactly.{HourSettled}
 

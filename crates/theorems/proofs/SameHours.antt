@@ -1,17 +1,15 @@
 -- Bodies with the same head and the same hours, but for K and the demands, have the same amounts.
-use Prim.Native.Nat.{ℕ, zero, suc, _+_, _*_, _≤_, _<_, max}
-use mathlib.Core.Bool.{Bool, cond}
+use Prim.Native.Nat.{ℕ, zero, suc, _+_, _*_, _<_, max}
+use mathlib.Core.Bool.{cond}
 use mathlib.Core.List.{List}
 use mathlib.Core.Path.{_≡_, refl, sym, ap, ap₂, _∙_}
 use native.Mathlib.Nat.{add-zero}
 use native.Mathlib.Omega.{arith}
-use lib.IntN.{ℤ}
 use lib.ListN.{take, drop}
 use Rattle.words.specs.Word.{wordAt, signedOf}
 use Rattle.words.proofs.Part.{word-part}
-use Rattle.body.specs.Layout.{kindOf, flagOf, pointsOf, hourAt, intervalsAt, requirementAt, mecAt}
-use Rattle.price.specs.declared.PriceAnswer.{PriceAnswer}
-use Rattle.price.specs.Price.{withInterval, averageOf, answerOf}
+use Rattle.body.specs.Layout.{kindOf, flagOf, pointsOf, hourAt, intervalsAt}
+use Rattle.price.specs.Price.{averageOf, answerOf}
 use Rattle.surcharge.specs.Surcharge.{peakHour, highest, upwardFrom, downwardFrom, upwardAt, tierAt, dayTier, dayUpward, hubPrice, greaterPrice, priceFrom, priceAnswerAt, onPeakAmount, offPeakAmount, downwardAmount, amountAt, priceNeeded, priceMissing}
 use Rattle.theorems.specs.Merge.{SameHours}
 

@@ -40,9 +40,9 @@ module _ (file : List ℕ) where
   abbrev days : List ℕ
   days = fileDays file (areasOf file)
 
-  hour-is : (k : ℕ) → k < areasOf file → areaRule days file k ≡ scan (hourVerdict file k) 0 24
+  area-is : (k : ℕ) → k < areasOf file → areaRule days file k ≡ scan (hourVerdict file k) 0 24
   unfolding areaRule hoursRule
-  hour-is k area = rw (days-are file (areasOf file) k area)
+  area-is k area = rw (days-are file (areasOf file) k area)
 
   module _ (room : ℕ) where
     by-check : Refuses (checkOf file) → settleOf file room ≡ checkOf file
@@ -61,7 +61,7 @@ module _ (file : List ℕ) where
   first-hour-decides : (k h : ℕ) → FirstHour file k h → scan (areaRule days file) 0 (areasOf file) ≡ hourVerdict file k h
   first-hour-decides k h f =
       let within : areaRule days file k ≡ hourVerdict file k h =
-      hour-is k (f .area)
+      area-is k (f .area)
       ∙ first-decides (hourVerdict file k) 0 24 h
       (record { from = omega arith; below = f .hour; refuses = f .refuses; before = λ i _ p. f .hours-before i p }) in
       first-decides (areaRule days file) 0 (areasOf file) k
@@ -70,7 +70,7 @@ module _ (file : List ℕ) where
         below = omega (arith, f .area);
         refuses = λ q. f .refuses (sym (ap numberOf within) ∙ q);
         before = λ j _ p.
-            ap numberOf (hour-is j (omega (arith, f .area))) ∙ all-accept (hourVerdict file j) 24 (λ i q. f .areas-before j i p q);
+            ap numberOf (area-is j (omega (arith, f .area))) ∙ all-accept (hourVerdict file j) 24 (λ i q. f .areas-before j i p q);
       })
       ∙ within
 
@@ -79,7 +79,7 @@ module _ (file : List ℕ) where
   first-hour r =
       let area = first-of (areaRule days file) 0 (areasOf file) r in
       let below : area .0 < areasOf file = omega (arith, area .1 .below) in
-      let hour = first-of (hourVerdict file (area .0)) 0 24 (λ q. area .1 .refuses (ap numberOf (hour-is (area .0) below) ∙ q)) in (
+      let hour = first-of (hourVerdict file (area .0)) 0 24 (λ q. area .1 .refuses (ap numberOf (area-is (area .0) below) ∙ q)) in (
         area .0,
         hour .0,
         record {
@@ -88,7 +88,7 @@ module _ (file : List ℕ) where
           refuses = hour .1 .refuses;
           areas-before = λ j i p q.
               scan-each (hourVerdict file j) 24
-              (sym (ap numberOf (hour-is j (omega (arith, below)))) ∙ area .1 .before j (omega arith) p) i q;
+              (sym (ap numberOf (area-is j (omega (arith, below)))) ∙ area .1 .before j (omega arith) p) i q;
           hours-before = λ i p. hour .1 .before i (omega arith) p;
         },
       )

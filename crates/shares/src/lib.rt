@@ -36,12 +36,15 @@ fn total_demand(demands: &[u32]) -> u32
     sum
 }
 
-// R(A × C / T) at running demand C; 0 where there is no demand.
+// R(A × C / T) at running demand C; 0 where there is no demand. Most hours have no amount, and are spared the division.
 fn up_to(amount: i64, total: u32, running: u32) -> i64
     requires { ⌜ (natAbs amount ≤ 10000000000) × (running ≤ 100000000) ⌝ }
     ensures { λ r. ⌜ r ≡ upTo amount total running ⌝ }
 {
     if total == 0 {
+        return 0;
+    }
+    if amount == 0 {
         return 0;
     }
     exact::round_div(exact::times(amount, running), total)

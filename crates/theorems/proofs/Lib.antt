@@ -1,3 +1,4 @@
+pub mod SameAmounts
 pub mod SameHours
 pub mod SettledExactly
 pub mod MergedBody

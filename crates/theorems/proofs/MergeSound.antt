@@ -1,5 +1,5 @@
 -- A sound body is sound with its neighbours merged.
-use Prim.Native.Nat.{ℕ, zero, suc, _+_, _*_, _-_, _≤_, _<_}
+use Prim.Native.Nat.{ℕ, zero, suc, _+_, _-_, _≤_, _<_}
 use mathlib.Core.List.{List}
 use mathlib.Core.Logic.{dite, ⊎-elim}
 use mathlib.Core.Path.{_≡_, refl, sym, ap, _∙_}
@@ -8,14 +8,14 @@ use native.Mathlib.Nat.{eq-or-lt-of-le, le-refl, le-trans}
 use native.Mathlib.Omega.{arith}
 use lib.ListN.{length}
 use Rattle.words.specs.Word.{wordAt}
-use Rattle.body.specs.Layout.{pointsOf, coordinatorsOf, coordinatorAt, coordinatorBefore, intervalsAt, priceAt, demandsAt, demandAt, runningDemand}
+use Rattle.body.specs.Layout.{coordinatorsOf, coordinatorAt, coordinatorBefore, demandsAt, demandAt, runningDemand}
 use Rattle.body.specs.Sound.{Sound}
 use Rattle.body.proofs.Facts.{hour-demand}
 use Rattle.parts.specs.Bytes.{Below, wordsFrom}
 use Rattle.parts.proofs.Words.{words-count, words-at}
 use Rattle.theorems.specs.Merge.{Mergeable, Merged, mergedBody}
 use Rattle.theorems.proofs.Joined.{merged-before, merged-there, merged-behind}
-use Rattle.theorems.proofs.SameHours.{interval-same}
+use Rattle.theorems.proofs.SameHours.{quantity-same, price-same}
 use Rattle.theorems.proofs.MergedBody.{demand-same}
 use Rattle.theorems.proofs.MergeWords.{other-length, head-is, count-is, coordinator-is, built}
 
@@ -120,11 +120,6 @@ module _ (most i n number : ℕ) (body : List ℕ) (g : Mergeable i n number bod
       let most-demand = hour-demand most body sound h p count (omega arith) in
       (omega (arith, all, up, next, most-demand), omega (arith, all, up, next, most-demand))
 
-  price-word : (h j : ℕ) → h < 24 → j < 12 * pointsOf body → priceAt other h j ≡ priceAt body h j
-  price-word h j p q =
-      let there : (at : ℕ) → at + 2 * j + 1 ≡ at + (2 * j + 1) = λ at. omega arith in
-      ap (wordAt other) (there (intervalsAt other h)) ∙ interval-same body other (m .same) h p (2 * j + 1) (omega arith) ∙ ap (wordAt body) (sym (there (intervalsAt body h)))
-
   pub merged-sound : Sound most other
   merged-sound =
       let same = m .same in
@@ -143,7 +138,7 @@ module _ (most i n number : ℕ) (body : List ℕ) (g : Mergeable i n number bod
         deficiency = λ h j p q. rw (same .hour h j p (omega arith)) (sound .deficiency h j p q);
         requirement = λ h p. rw (same .hour h 6 p (omega arith)) (sound .requirement h p);
         mec = λ h p. rw (same .hour h 7 p (omega arith)) (sound .mec h p);
-        quantity = λ h j p q. rw (interval-same body other same h p (2 * j) (omega (arith, q, points))) (sound .quantity h j p (omega (arith, q, points)));
-        price = λ h j p q. rw (price-word h j p (omega (arith, q, points))) (sound .price h j p (omega (arith, q, points)));
+        quantity = λ h j p q. rw (quantity-same body other same h j p (omega (arith, q, points))) (sound .quantity h j p (omega (arith, q, points)));
+        price = λ h j p q. rw (price-same body other same h j p (omega (arith, q, points))) (sound .price h j p (omega (arith, q, points)));
         demand = demand-kept;
       }

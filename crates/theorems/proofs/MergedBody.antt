@@ -12,10 +12,14 @@ use Rattle.statement.proofs.Demands.{demand-total}
 use Rattle.statement.proofs.Charges.{charges-shared}
 use Rattle.settlement.specs.Settlement.{chargeable}
 use Rattle.theorems.specs.Merge.{demandsOf, Merged}
-use Rattle.theorems.proofs.SameHours.{kind-same, amount-same, on-peak-same, off-peak-same, downward-same, missing-same}
+use Rattle.theorems.proofs.SameAmounts.{SameAmounts, kind-same, amount-same, on-peak-same, off-peak-same, downward-same, missing-same}
+use Rattle.theorems.proofs.SameHours.{same-amounts}
 use Rattle.theorems.proofs.SettledExactly.{HourSettled}
 
 module _ (i n : ℕ) (body other : List ℕ) (m : Merged i n body other) where
+  same : SameAmounts body other
+  same = same-amounts body other (m .same)
+
   pub days-same : daysOf other ≡ daysOf body
   days-same = m .same .head 2 (omega arith)
 
@@ -28,16 +32,16 @@ module _ (i n : ℕ) (body other : List ℕ) (m : Merged i n body other) where
 
     chargeable-same : chargeable other peak days h ≡ chargeable body peak days h
     unfolding chargeable
-    chargeable-same = rw (kind-same body other (m .same), amount-same body other (m .same) peak days h below, demand-same)
+    chargeable-same = rw (kind-same body other same, amount-same body other same peak days h below, demand-same)
 
     pub hour-settled-too : HourSettled peak days body h → HourSettled peak days other h
-    hour-settled-too s = record { priced = missing-same body other (m .same) peak days h below ∙ s .priced; paid = chargeable-same ∙ s .paid }
+    hour-settled-too s = record { priced = missing-same body other same peak days h below ∙ s .priced; paid = chargeable-same ∙ s .paid }
 
     charges-merged : kindOf body ≡ 1 → chargesAt peak days other h ≡ mergedAt sum i n (chargesAt peak days body h)
     charges-merged ciso =
         let amount = amountAt body peak days h in
-        charges-shared (kindOf other) (amountAt other peak days h) other (demandsAt other h) (coordinatorsOf other) (kind-same body other (m .same) ∙ ciso)
-        ∙ ap₂ shares (amount-same body other (m .same) peak days h below) (m .demands h below)
+        charges-shared (kindOf other) (amountAt other peak days h) other (demandsAt other h) (coordinatorsOf other) (kind-same body other same ∙ ciso)
+        ∙ ap₂ shares (amount-same body other same peak days h below) (m .demands h below)
         ∙ merged amount i n (demandsOf body h)
         ∙ ap (mergedAt sum i n) (sym (charges-shared (kindOf body) amount body (demandsAt body h) (coordinatorsOf body) ciso))
 
@@ -45,4 +49,4 @@ module _ (i n : ℕ) (body other : List ℕ) (m : Merged i n body other) where
         → hourBlock peak days other h ≡ onPeakAmount body peak days h ∷ offPeakAmount body peak h ∷ downwardAmount body h ∷ mergedAt sum i n (chargesAt peak days body h)
     unfolding hourBlock
     hour-merged ciso =
-        rw (on-peak-same body other (m .same) peak days h below, off-peak-same body other (m .same) peak days h below, downward-same body other (m .same) h below, charges-merged ciso)
+        rw (on-peak-same body other same peak days h below, off-peak-same body other same peak days h below, downward-same body other same h below, charges-merged ciso)

@@ -18,10 +18,10 @@ use Rattle.theorems.proofs.ChangedFile.{files-alike}
 
 -- of an area: no number of its block, and neither 11 nor 12 of any of its hours
 pub area-unchanged : (body body′ : List ℕ) (h i : ℕ) → PriceIsMissing body h i → ChangedAt (quantityWord body h i) body body′ → (peak days : ℕ)
-    → (block peak days body ≡ block peak days body′) × ((start g : ℕ) → hourRule peak days start body g ≡ hourRule peak days start body′ g)
+    → (block peak days body ≡ block peak days body′) × ((start g : ℕ) → g < 24 → hourRule peak days start body g ≡ hourRule peak days start body′ g)
 area-unchanged body body′ h i gone changed peak days =
     let alike = changed-alike body body′ h i gone changed in
-    (block-same body body′ alike peak days, rule-same body body′ alike peak days)
+    (block-same body body′ alike peak days, λ start g below. rule-same body body′ alike peak days g below start)
 
 -- of a file, and of the same file with another quantity in such an interval of area k, both accepted by the check: neither the answer of `settle` nor any
 -- number of the statement that it leaves

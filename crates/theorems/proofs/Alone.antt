@@ -2,8 +2,9 @@
 -- its block is the block that it had.
 use Prim.Native.Nat.{ℕ, zero, suc, _≤_, _<_}
 use mathlib.Core.List.{List, [], _∷_}
-use mathlib.Core.Path.{_≡_, refl, ap, _∙_}
+use mathlib.Core.Path.{_≡_, refl, sym, ap, _∙_}
 use native.Mathlib.Omega.{arith}
+use lib.IntN.{ℤ}
 use lib.ListN.{length}
 use Rattle.limits.specs.Editions.{editionOne}
 use Rattle.verdict.specs.Verdict.{numberOf}
@@ -21,6 +22,8 @@ use Rattle.parts.proofs.OwnGood.{own-words}
 use Rattle.statement.specs.Block.{areaNumbers, block}
 use Rattle.settlement.specs.Settlement.{neededTo, numbersNeeded, settleOf}
 use Rattle.theorems.specs.Alone.{alone}
+use Rattle.theorems.specs.Shown.{statementLeft, hourShown}
+use Rattle.theorems.proofs.Shown.{hour-shown}
 use Rattle.theorems.proofs.SettledExactly.{HourSettled, settled-says, settled-accepts}
 
 module _ (file : List ℕ) (k : ℕ) (accepted : numberOf (checkOf file) ≡ 0) (below : k < areasOf file) where
@@ -117,3 +120,10 @@ module _ (file : List ℕ) (k : ℕ) (accepted : numberOf (checkOf file) ≡ 0) 
       by : (j h : ℕ) → j < 1 → h < 24 → HourSettled (peakOf (alone file k)) (daysOf (bodyAt (alone file k) j)) (bodyAt (alone file k) j) h
       by zero h p q = rw (alone-peak, alone-body) (settled-says room file z .hour k h below q)
       by (suc j) h p q = absurd (omega arith)
+
+  -- read off the two statements: every hour shows the numbers that it showed
+  pub alone-shows : (statement other : List ℤ) → numberOf (settleOf file (length statement)) ≡ 0 → numberOf (settleOf (alone file k) (length other)) ≡ 0 → (h : ℕ) → h < 24
+      → hourShown (alone file k) 0 h (statementLeft (alone file k) other) ≡ hourShown file k h (statementLeft file statement)
+  alone-shows statement other z y h q =
+      hour-shown (alone file k) other y 0 h (omega (arith, alone-one)) q
+      ∙ rw (alone-peak, alone-body) (sym (hour-shown file statement z k h below q))

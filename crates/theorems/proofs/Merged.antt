@@ -3,9 +3,11 @@
 use Prim.Native.Nat.{ℕ, zero, suc, _≤_, _<_}
 use mathlib.Core.List.{List, _∷_}
 use mathlib.Core.Logic.{dite}
-use mathlib.Core.Path.{_≡_, ap}
+use mathlib.Core.Path.{_≡_, sym, ap, _∙_}
 use native.Mathlib.Decide.{ℕ-discrete}
 use native.Mathlib.Omega.{arith}
+use lib.IntN.{ℤ}
+use lib.ListN.{length}
 use Rattle.verdict.specs.Verdict.{numberOf}
 use Rattle.body.specs.Layout.{kindOf, daysOf, coordinatorsOf}
 use Rattle.dayfile.specs.File.{areasOf, peakOf, bodyAt}
@@ -14,7 +16,11 @@ use Rattle.shares.specs.Shares.{sum, mergedAt}
 use Rattle.surcharge.specs.Surcharge.{onPeakAmount, offPeakAmount, downwardAmount}
 use Rattle.statement.specs.Block.{block, hourBlock, chargesAt}
 use Rattle.settlement.specs.Settlement.{neededTo, settleOf}
-use Rattle.theorems.specs.Merge.{MergedFile}
+use Rattle.parts.specs.Bytes.{Below}
+use Rattle.theorems.specs.Merge.{Mergeable, MergedFile, merge}
+use Rattle.theorems.specs.Shown.{statementLeft, hourShown, onPeakShown, offPeakShown, downwardShown, chargesShown}
+use Rattle.theorems.proofs.Shown.{hour-shown, on-peak-shown, off-peak-shown, downward-shown, charges-shown}
+use Rattle.theorems.proofs.MergeAccepted.{merge-accepted, merge-merges}
 use Rattle.theorems.proofs.SettledExactly.{HourSettled, settled-says, settled-accepts}
 use Rattle.theorems.proofs.MergedBody.{days-same, hour-settled-too, hour-merged}
 
@@ -63,3 +69,30 @@ module _ (i n : ℕ) (file other : List ℕ) (m : MergedFile i n file other) whe
     ciso-merged e h q =
         let one = m .ciso k below e in
         rw (m .peak, days-same i n (bodyAt file k) (bodyAt other k) one) (hour-merged i n (bodyAt file k) (bodyAt other k) one (peakOf file) (daysOf (bodyAt file k)) h q e)
+
+    -- ---- the same, read off the two statements
+
+    module _ (before after : List ℤ) (z : numberOf (settleOf file (length before)) ≡ 0) (y : numberOf (settleOf other (length after)) ≡ 0) (h : ℕ) (hour : h < 24) where
+      abbrev was : List ℤ
+      was = statementLeft file before
+
+      there : k < areasOf other
+      there = omega (arith, below, m .areas)
+
+      pub rest-shown : (kindOf (bodyAt file k) ≡ 1 → ⊥) → hourShown other k h (statementLeft other after) ≡ hourShown file k h was
+      rest-shown e = hour-shown other after y k h there hour ∙ rw (m .peak, m .rest k below e) (sym (hour-shown file before z k h below hour))
+
+      pub ciso-shown : kindOf (bodyAt file k) ≡ 1
+          → hourShown other k h (statementLeft other after)
+          ≡ onPeakShown file k h was ∷ offPeakShown file k h was ∷ downwardShown file k h was ∷ mergedAt sum i n (chargesShown file k h was)
+      ciso-shown e =
+          rw (on-peak-shown file before z k h below hour, off-peak-shown file before z k h below hour, downward-shown file before z k h below hour, charges-shown file before z k h below hour)
+          (hour-shown other after y k h there hour ∙ ciso-merged e h hour)
+
+-- the file that `merge` makes is settled where the first is
+pub merge-settled : (i n number : ℕ) (file : List ℕ) → Below 256 file
+    → ((k : ℕ) → k < areasOf file → kindOf (bodyAt file k) ≡ 1 → Mergeable i n number (bodyAt file k))
+    → (room : ℕ) → numberOf (settleOf file room) ≡ 0 → numberOf (settleOf (merge i n number file) room) ≡ 0
+merge-settled i n number file bytes mergeable room z =
+    let accepted = settled-says room file z .checked in
+    settled-too i n file (merge i n number file) (merge-merges i n number file accepted bytes mergeable) (merge-accepted i n number file accepted bytes mergeable) room z

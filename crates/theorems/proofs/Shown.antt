@@ -21,7 +21,7 @@ use Rattle.settlement.specs.Settlement.{neededTo, numbersNeeded, statementTo, f
 use Rattle.settlement.proofs.Accepted.{sound-file, days-length, days-last, settled}
 use Rattle.settlement.proofs.Areas.{statement-length}
 use Rattle.settlement.proofs.Room.{check-accepts}
-use Rattle.theorems.specs.Shown.{statementLeft, placeOfHour, onPeakShown, offPeakShown, downwardShown, chargeShown, chargesShown}
+use Rattle.theorems.specs.Shown.{statementLeft, placeOfHour, hourShown, onPeakShown, offPeakShown, downwardShown, chargeShown, chargesShown}
 use Rattle.theorems.proofs.Stands.{Stands, within, followed, last, taken, number}
 
 hour-in-block : (peak days : ℕ) (body : List ℕ) → Sound 32 body → (n : ℕ) → n ≤ 24 → (h : ℕ) → h < n
@@ -76,6 +76,9 @@ module _ (file : List ℕ) (statement : List ℤ) (accepted : numberOf (settleOf
   -- A reader finds the three amounts there,
   long : length (hourBlock (peakOf file) (daysOf body) body h) ≡ 3 + coordinatorsOf body
   long = hour-length (peakOf file) (daysOf body) body (sound .body k area) h hour
+
+  pub hour-shown : hourShown file k h (statementLeft file statement) ≡ hourBlock (peakOf file) (daysOf body) body h
+  hour-shown = taken _ _ _ hour-stands _ long
 
   pub on-peak-shown : onPeakShown file k h (statementLeft file statement) ≡ onPeakAmount body (peakOf file) (daysOf body) h
   unfolding hourBlock

@@ -18,6 +18,10 @@ module _ (file : List ℕ) (k h : ℕ) where
   placeOfHour = neededTo file k + h * (3 + coordinatorsOf (bodyAt file k))
 
   module _ (statement : List ℤ) where
+    -- the 3 + K numbers of the hour
+    abbrev pub hourShown : List ℤ
+    hourShown = take (3 + coordinatorsOf (bodyAt file k)) (drop placeOfHour statement)
+
     abbrev pub onPeakShown : ℤ
     onPeakShown = getD statement placeOfHour (pos 0)
 

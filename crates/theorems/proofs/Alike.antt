@@ -14,9 +14,9 @@ use Rattle.theorems.proofs.Demands.{charges-same}
 use Rattle.theorems.proofs.SameAmounts.{SameAmounts, amount-same, on-peak-same, off-peak-same, downward-same, missing-same}
 use Rattle.theorems.proofs.FirstIndex.{scan-same}
 
--- word by word: the head, the eight numbers of each hour, its prices, its quantities where the price is there, its demands
+-- word by word: the head with its coordinator numbers, the eight numbers of each hour, its prices, its quantities where the price is there, its demands
 pub record Alike (body body′ : List ℕ) : Type 0 where
-  pub head : (j : ℕ) → j < 7 → wordAt body j ≡ wordAt body′ j
+  pub head : (j : ℕ) → j < 7 + coordinatorsOf body → wordAt body j ≡ wordAt body′ j
   pub number : (g o : ℕ) → o < 8 → wordAt body (hourAt body g + o) ≡ wordAt body′ (hourAt body g + o)
   pub price : (g m : ℕ) → m < 12 * pointsOf body → priceAt body g m ≡ wordAt body′ (intervalsAt body g + 2 * m + 1)
   pub quantity : (g m : ℕ) → m < 12 * pointsOf body
@@ -34,7 +34,7 @@ same-alike body body′ same =
       demand = λ g j p. same _;
     }
 
-demand-same : (body body′ : List ℕ) (from n : ℕ) → ((i : ℕ) → i < n → wordAt body (from + i) ≡ wordAt body′ (from + i))
+pub demand-same : (body body′ : List ℕ) (from n : ℕ) → ((i : ℕ) → i < n → wordAt body (from + i) ≡ wordAt body′ (from + i))
     → runningDemand body from n ≡ runningDemand body′ from n
 unfolding runningDemand
 demand-same body body′ from zero same = refl
@@ -43,13 +43,13 @@ demand-same body body′ from (suc n) same = ap₂ _+_ (demand-same body body′
 -- ---- of two bodies that are alike
 
 module _ (body body′ : List ℕ) (alike : Alike body body′) where
-  points : pointsOf body ≡ pointsOf body′
+  pub points : pointsOf body ≡ pointsOf body′
   points = alike .head 5 (omega arith)
 
   pub coordinators : coordinatorsOf body ≡ coordinatorsOf body′
   coordinators = alike .head 6 (omega arith)
 
-  at : (g : ℕ) → hourAt body g ≡ hourAt body′ g
+  pub at : (g : ℕ) → hourAt body g ≡ hourAt body′ g
   at g = rw (points, coordinators)
 
   same : SameAmounts body body′

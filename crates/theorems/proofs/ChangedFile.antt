@@ -22,7 +22,7 @@ use Rattle.theorems.proofs.ChangedBody.{changed-alike}
 
 -- ---- the words of a part, from the words of the whole
 
-abbrev part : List ℕ → ℕ → ℕ → List ℕ
+abbrev pub part : List ℕ → ℕ → ℕ → List ℕ
 part bytes start count = take (4 * count) (drop (4 * start) bytes)
 
 module _ (start count : ℕ) where
@@ -41,13 +41,13 @@ module _ (start count : ℕ) where
       (λ p. word-part bytes start count m p ∙ same p ∙ sym (word-part bytes′ start count m p))
       (λ n. word-past bytes m (omega (arith, n)) ∙ sym (word-past bytes′ m (omega (arith, n))))
 
-  part-length : (bytes bytes′ : List ℕ) → length bytes ≡ length bytes′ → length (part bytes start count) ≡ length (part bytes′ start count)
+  pub part-length : (bytes bytes′ : List ℕ) → length bytes ≡ length bytes′ → length (part bytes start count) ≡ length (part bytes′ start count)
   part-length bytes bytes′ e = simp (length-take, length-drop, e)
 
 -- ---- where the bodies of an accepted file stand: behind the contents, and none in another
 
 module _ (file : List ℕ) (accepted : numberOf (checkOf file) ≡ 0) where
-  checked : numberOf (checkWithin editionOne file) ≡ 0
+  pub checked : numberOf (checkWithin editionOne file) ≡ 0
   unfolding checkOf
   checked = accepted
 
@@ -71,17 +71,17 @@ module _ (file : List ℕ) (accepted : numberOf (checkOf file) ≡ 0) where
   -- ---- and so what the change leaves
 
   module _ (file′ : List ℕ) (k h i : ℕ) (area : k < areasOf file) (gone : PriceIsMissing (bodyAt file k) h i) (changed : ChangedAt (startAt file k + quantityWord (bodyAt file k) h i) file file′) where
-    inside : quantityWord (bodyAt file k) h i < sizeAt file k
+    pub inside : quantityWord (bodyAt file k) h i < sizeAt file k
     inside =
         omega (arith, hour-inside (editionOne .points) (bodyAt file k) (file-sound editionOne file checked k area) h (gone .hour), body-length editionOne file checked k area, gone .interval)
 
-    contents-same : (j : ℕ) → j < 4 + 3 * areasOf file → wordAt file j ≡ wordAt file′ j
+    pub contents-same : (j : ℕ) → j < 4 + 3 * areasOf file → wordAt file j ≡ wordAt file′ j
     contents-same j p = changed .others j (λ q. omega (arith, behind-contents k area))
 
-    body-is : (j : ℕ) → j < areasOf file → part file′ (startAt file j) (sizeAt file j) ≡ bodyAt file′ j
+    pub body-is : (j : ℕ) → j < areasOf file → part file′ (startAt file j) (sizeAt file j) ≡ bodyAt file′ j
     body-is j p = ap₂ (part file′) (contents-same _ (omega arith)) (contents-same _ (omega arith))
 
-    changed-body : ChangedAt (quantityWord (bodyAt file k) h i) (bodyAt file k) (bodyAt file′ k)
+    pub changed-body : ChangedAt (quantityWord (bodyAt file k) h i) (bodyAt file k) (bodyAt file′ k)
     changed-body =
         rw (← body-is k area)
         (record {
@@ -89,7 +89,7 @@ module _ (file : List ℕ) (accepted : numberOf (checkOf file) ≡ 0) where
           others = λ m n. part-word (startAt file k) (sizeAt file k) file file′ m (λ _. changed .others _ (λ q. n (omega (arith, q))));
         })
 
-    other-body : (j : ℕ) → j < areasOf file → (j ≡ k → ⊥) → (m : ℕ) → wordAt (bodyAt file j) m ≡ wordAt (bodyAt file′ j) m
+    pub other-body : (j : ℕ) → j < areasOf file → (j ≡ k → ⊥) → (m : ℕ) → wordAt (bodyAt file j) m ≡ wordAt (bodyAt file′ j) m
     other-body j p other m =
         rw (← body-is j p)
         (part-word (startAt file j) (sizeAt file j) file file′ m

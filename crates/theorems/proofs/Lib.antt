@@ -22,3 +22,5 @@ pub mod ChangedBody
 pub mod MissingPrices
 pub mod AlikeFiles
 pub mod ChangedFile
+pub mod AlikeChecks
+pub mod ChangedChecks

@@ -22,7 +22,7 @@ use Rattle.theorems.proofs.ChangedBody.{changed-alike}
 
 -- ---- the words of a part, from the words of the whole
 
-abbrev pub part : List ℕ → ℕ → ℕ → List ℕ
+abbrev part : List ℕ → ℕ → ℕ → List ℕ
 part bytes start count = take (4 * count) (drop (4 * start) bytes)
 
 module _ (start count : ℕ) where

@@ -100,7 +100,7 @@ module _ (file : List ℕ) (statement : List ℤ) (accepted : numberOf (settleOf
       (last (onPeakAmount body (peakOf file) (daysOf body) h ∷ offPeakAmount body (peakOf file) h ∷ downwardAmount body h ∷ []) _ 3 refl)
       hour-stands
 
-  pub charges-many : length (chargesAt (peakOf file) (daysOf body) body h) ≡ coordinatorsOf body
+  charges-many : length (chargesAt (peakOf file) (daysOf body) body h) ≡ coordinatorsOf body
   charges-many =
       charges-length (kindOf body) (amountAt body (peakOf file) (daysOf body) h) body (demandsAt body h) (coordinatorsOf body)
       (demands-ranged body (sound .body k area) h hour .alone)

@@ -23,9 +23,9 @@ use Rattle.theorems.proofs.AlikeChecks.{body-rule-same}
 use Rattle.theorems.proofs.ChangedFile.{part-length, checked, inside, contents-same, body-is, changed-body, other-body, files-alike}
 use Rattle.theorems.proofs.FirstIndex.{scan-same}
 
-module _ (file : List ℕ) (accepted : numberOf (checkOf file) ≡ 0) (file′ : List ℕ) (k h i : ℕ) (area : k < areasOf file) (gone : PriceIsMissing (bodyAt file k) h i) (changed : ChangedAt (startAt file k + quantityWord (bodyAt file k) h i) file file′) where
+module _ (file : List ℕ) (accepted : numberOf (checkOf file) ≡ 0) (k h i : ℕ) (area : k < areasOf file) (gone : PriceIsMissing (bodyAt file k) h i) (file′ : List ℕ) (changed : ChangedAt (startAt file k + quantityWord (bodyAt file k) h i) file file′) where
   same : (j : ℕ) → j < 4 + 3 * areasOf file → wordAt file j ≡ wordAt file′ j
-  same = contents-same file accepted file′ k h i area gone changed
+  same = contents-same file accepted k h i area gone file′ changed
 
   -- ---- the head and the contents
 
@@ -58,12 +58,12 @@ module _ (file : List ℕ) (accepted : numberOf (checkOf file) ≡ 0) (file′ :
   unfolding cisoBefore
   ciso-same zero p = refl
   ciso-same (suc j) p =
-      ap₂ _+_ (ciso-same j (omega arith)) (files-alike file accepted file′ k h i area gone changed .body j p .head 0 (omega arith))
+      ap₂ _+_ (ciso-same j (omega arith)) (files-alike file accepted k h i area gone file′ changed .body j p .head 0 (omega arith))
 
   module _ (small : wordAt file′ (startAt file k + quantityWord (bodyAt file k) h i) ≤ 10000000) where
     new-quantity : wordAt (bodyAt file′ k) (quantityWord (bodyAt file k) h i) ≤ 10000000
     new-quantity =
-        rw (← body-is file accepted file′ k h i area gone changed k area, word-part file′ (startAt file k) (sizeAt file k) (quantityWord (bodyAt file k) h i) (inside file accepted file′ k h i area gone changed)) small
+        rw (← body-is file accepted k h i area gone file′ changed k area, word-part file′ (startAt file k) (sizeAt file k) (quantityWord (bodyAt file k) h i) (inside file accepted k h i area gone)) small
 
     ranged-here : (g m : ℕ) → g < 24 → m < 12 * pointsOf (bodyAt file k)
         → leb (quantityAt (bodyAt file k) g m) 10000000 ≡ leb (wordAt (bodyAt file′ k) (intervalsAt (bodyAt file k) g + 2 * m)) 10000000
@@ -74,20 +74,20 @@ module _ (file : List ℕ) (accepted : numberOf (checkOf file) ≡ 0) (file′ :
         (λ e.
         le-leb (wordAt body word) 10000000 (file-sound editionOne file (checked file accepted) k area .quantity g m p q)
         ∙ sym (le-leb (wordAt (bodyAt file′ k) word) 10000000 (rw e new-quantity)))
-        (λ n. ap (λ w. leb w 10000000) (changed-body file accepted file′ k h i area gone changed .others word n))
+        (λ n. ap (λ w. leb w 10000000) (changed-body file accepted k h i area gone file′ changed .others word n))
 
     ranged : (j g m : ℕ) → j < areasOf file → g < 24 → m < 12 * pointsOf (bodyAt file j)
         → leb (quantityAt (bodyAt file j) g m) 10000000 ≡ leb (wordAt (bodyAt file′ j) (intervalsAt (bodyAt file j) g + 2 * m)) 10000000
     ranged j g m below p =
         dite (ℕ-discrete j k)
         (λ e. rw e (ranged-here g m p))
-        (λ other q. ap (λ w. leb w 10000000) (other-body file accepted file′ k h i area gone changed j below other (intervalsAt (bodyAt file j) g + 2 * m)))
+        (λ other q. ap (λ w. leb w 10000000) (other-body file accepted k h i area gone file′ changed j below other (intervalsAt (bodyAt file j) g + 2 * m)))
 
     body-of-same : (limits : Limits) (j : ℕ) → j < areasOf file → bodyOf limits file j ≡ bodyOf limits file′ j
     unfolding bodyOf
     body-of-same limits j p =
-        body-rule-same (startAt file j) (bodyAt file j) (bodyAt file′ j) (files-alike file accepted file′ k h i area gone changed .body j p)
-        (part-length (startAt file j) (sizeAt file j) file file′ (changed .as-many) ∙ ap length (body-is file accepted file′ k h i area gone changed j p))
+        body-rule-same (startAt file j) (bodyAt file j) (bodyAt file′ j) (files-alike file accepted k h i area gone file′ changed .body j p)
+        (part-length (startAt file j) (sizeAt file j) file file′ (changed .as-many) ∙ ap length (body-is file accepted k h i area gone file′ changed j p))
         (λ g m below q. ranged j g m p below q)
         limits (cisoBefore file j)
         ∙ ap₂ (λ start ciso. bodyRule start (bodyAt file′ j) limits ciso) (same _ (omega arith)) (ciso-same j (omega arith))

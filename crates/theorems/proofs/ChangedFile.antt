@@ -68,45 +68,49 @@ module _ (file : List ℕ) (accepted : numberOf (checkOf file) ≡ 0) where
       (λ (m : j < k). omega (arith, due (suc k) p, in-order j k m (omega arith)))
       (eq-or-lt-of-le (le-of-suc-le-suc l))
 
-  -- ---- and so what the change leaves
-
-  module _ (file′ : List ℕ) (k h i : ℕ) (area : k < areasOf file) (gone : PriceIsMissing (bodyAt file k) h i) (changed : ChangedAt (startAt file k + quantityWord (bodyAt file k) h i) file file′) where
+  module _ (k h i : ℕ) (area : k < areasOf file) (gone : PriceIsMissing (bodyAt file k) h i) where
     pub inside : quantityWord (bodyAt file k) h i < sizeAt file k
     inside =
         omega (arith, hour-inside (editionOne .points) (bodyAt file k) (file-sound editionOne file checked k area) h (gone .hour), body-length editionOne file checked k area, gone .interval)
 
-    pub contents-same : (j : ℕ) → j < 4 + 3 * areasOf file → wordAt file j ≡ wordAt file′ j
-    contents-same j p = changed .others j (λ q. omega (arith, behind-contents k area))
+    pub inside-file : 4 * (startAt file k + quantityWord (bodyAt file k) h i) + 4 ≤ length file
+    inside-file = omega (arith, inside, file-entry editionOne file checked k area .inside)
 
-    pub body-is : (j : ℕ) → j < areasOf file → part file′ (startAt file j) (sizeAt file j) ≡ bodyAt file′ j
-    body-is j p = ap₂ (part file′) (contents-same _ (omega arith)) (contents-same _ (omega arith))
+    -- ---- and so what the change leaves
 
-    pub changed-body : ChangedAt (quantityWord (bodyAt file k) h i) (bodyAt file k) (bodyAt file′ k)
-    changed-body =
-        rw (← body-is k area)
-        (record {
-          as-many = part-length (startAt file k) (sizeAt file k) file file′ (changed .as-many);
-          others = λ m n. part-word (startAt file k) (sizeAt file k) file file′ m (λ _. changed .others _ (λ q. n (omega (arith, q))));
-        })
+    module _ (file′ : List ℕ) (changed : ChangedAt (startAt file k + quantityWord (bodyAt file k) h i) file file′) where
+      pub contents-same : (j : ℕ) → j < 4 + 3 * areasOf file → wordAt file j ≡ wordAt file′ j
+      contents-same j p = changed .others j (λ q. omega (arith, behind-contents k area))
 
-    pub other-body : (j : ℕ) → j < areasOf file → (j ≡ k → ⊥) → (m : ℕ) → wordAt (bodyAt file j) m ≡ wordAt (bodyAt file′ j) m
-    other-body j p other m =
-        rw (← body-is j p)
-        (part-word (startAt file j) (sizeAt file j) file file′ m
-        (λ below. changed .others _
-        (λ q.
-        dite (decLt j k)
-        (λ l. omega (arith, in-order j k l area))
-        (λ n. omega (arith, inside, in-order k j (omega (arith, other, n)) p)))))
+      pub body-is : (j : ℕ) → j < areasOf file → part file′ (startAt file j) (sizeAt file j) ≡ bodyAt file′ j
+      body-is j p = ap₂ (part file′) (contents-same _ (omega arith)) (contents-same _ (omega arith))
 
-    pub files-alike : AlikeFiles file file′
-    files-alike =
-        record {
-          areas = contents-same 2 (omega arith);
-          peak = contents-same 3 (omega arith);
-          start = λ j p. contents-same _ (omega arith);
-          body = λ j p.
-              dite (ℕ-discrete j k)
-              (λ e. rw e (changed-alike (bodyAt file k) (bodyAt file′ k) h i gone changed-body))
-              (λ other. same-alike (bodyAt file j) (bodyAt file′ j) (other-body j p other));
-        }
+      pub changed-body : ChangedAt (quantityWord (bodyAt file k) h i) (bodyAt file k) (bodyAt file′ k)
+      changed-body =
+          rw (← body-is k area)
+          (record {
+            as-many = part-length (startAt file k) (sizeAt file k) file file′ (changed .as-many);
+            others = λ m n. part-word (startAt file k) (sizeAt file k) file file′ m (λ _. changed .others _ (λ q. n (omega (arith, q))));
+          })
+
+      pub other-body : (j : ℕ) → j < areasOf file → (j ≡ k → ⊥) → (m : ℕ) → wordAt (bodyAt file j) m ≡ wordAt (bodyAt file′ j) m
+      other-body j p other m =
+          rw (← body-is j p)
+          (part-word (startAt file j) (sizeAt file j) file file′ m
+          (λ below. changed .others _
+          (λ q.
+          dite (decLt j k)
+          (λ l. omega (arith, in-order j k l area))
+          (λ n. omega (arith, inside, in-order k j (omega (arith, other, n)) p)))))
+
+      pub files-alike : AlikeFiles file file′
+      files-alike =
+          record {
+            areas = contents-same 2 (omega arith);
+            peak = contents-same 3 (omega arith);
+            start = λ j p. contents-same _ (omega arith);
+            body = λ j p.
+                dite (ℕ-discrete j k)
+                (λ e. rw e (changed-alike (bodyAt file k) (bodyAt file′ k) h i gone changed-body))
+                (λ other. same-alike (bodyAt file j) (bodyAt file′ j) (other-body j p other));
+          }

@@ -24,3 +24,4 @@ pub mod AlikeFiles
 pub mod ChangedFile
 pub mod AlikeChecks
 pub mod ChangedChecks
+pub mod WithWord

@@ -1,5 +1,6 @@
--- "A settled file's statement is its blocks and then what stood behind them; a refused file's statement is untouched." And `settle` refuses exactly where the
--- check refuses, or the room is short, or an hour of an area has 11 or 12: then it answers what the check, the numbers needed or the first such hour says.
+-- Settled or untouched: after 0 the statement is the blocks and then what stood behind them ("Numbers past the needed ones stay"), after any other number it is
+-- as it was ("A refusal writes nothing in any lent buffer"). And `settle` refuses exactly where the check refuses, or the room is short, or an hour of an area
+-- has 11 or 12; it answers what the check, the numbers needed or the first such hour says.
 use Prim.Native.Nat.{ℕ, _≤_, _<_}
 use mathlib.Core.List.{List, _++_}
 use mathlib.Core.Logic.{_⊎_, inl, inr, ⊎-elim, dite, _↔_}

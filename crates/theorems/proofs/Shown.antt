@@ -73,7 +73,8 @@ module _ (file : List ℕ) (statement : List ℤ) (accepted : numberOf (settleOf
       (hour-in-block (peakOf file) (getD days k 0) body (sound .body k area) 24 (le-refl _) h hour)
       (block-in-statement file days sound (areasOf file) (le-refl _) k area)))
 
-  -- A reader finds the three amounts there,
+  -- ---- what is read there: the three amounts
+
   long : length (hourBlock (peakOf file) (daysOf body) body h) ≡ 3 + coordinatorsOf body
   long = hour-length (peakOf file) (daysOf body) body (sound .body k area) h hour
 
@@ -92,7 +93,8 @@ module _ (file : List ℕ) (statement : List ℤ) (accepted : numberOf (settleOf
   unfolding hourBlock
   downward-shown = number _ _ _ hour-stands 2 (omega (arith, long))
 
-  -- and the charges behind them
+  -- ---- and the charges behind them
+
   charges-stand : Stands (chargesAt (peakOf file) (daysOf body) body h) (statementLeft file statement) (placeOfHour file k h + 3)
   unfolding hourBlock
   charges-stand =

@@ -1,4 +1,5 @@
--- "In the CISO area, wherever there is demand, every charge is less than one cent from its exact share": "T × charge and A × D differ by less than T".
+-- In the CISO area, wherever there is demand, every charge is less than one cent from its exact share: "A charge is less than one cent from its exact share of
+-- A, with demand D of total T > 0, when T × charge and A × D differ by less than T."
 use Prim.Native.Nat.{ℕ, _+_, _<_}
 use mathlib.Core.List.{List}
 use mathlib.Core.Path.{_≡_}

@@ -18,10 +18,10 @@ pub mod Turned
 pub mod FirstIndex
 pub mod SettledOrUntouched
 pub mod Alike
-pub mod ChangedBody
-pub mod MissingPrices
 pub mod AlikeFiles
-pub mod ChangedFile
 pub mod AlikeChecks
-pub mod ChangedChecks
 pub mod WithWord
+pub mod ChangedBody
+pub mod ChangedFile
+pub mod ChangedChecks
+pub mod MissingPrices

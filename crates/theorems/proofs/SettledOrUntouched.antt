@@ -2,22 +2,25 @@
 -- as it was ("A refusal writes nothing in any lent buffer"). And `settle` refuses exactly where the check refuses, or the room is short, or an hour of an area
 -- has 11 or 12; it answers what the check, the numbers needed or the first such hour says.
 use Prim.Native.Nat.{ℕ, _≤_, _<_}
+use mathlib.Core.Bool.{Bool, true, false, not}
 use mathlib.Core.List.{List, _++_}
 use mathlib.Core.Logic.{_⊎_, inl, inr, ⊎-elim, dite, _↔_}
-use mathlib.Core.Path.{_≡_, sym, ap, subst, _∙_}
+use mathlib.Core.Path.{_≡_, refl, sym, ap, subst, _∙_}
 use native.Mathlib.Decide.{ℕ-discrete, decLt}
 use native.Mathlib.Omega.{arith}
 use lib.IntN.{ℤ}
 use lib.ListN.{length, drop}
 use borrow.Author.Tests.{le-leb, lt-leb}
 use Rattle.verdict.specs.declared.Verdict.{Verdict}
-use Rattle.verdict.specs.declared.Verdict.the-variants.{RoomTooShort}
+use Rattle.verdict.specs.declared.Verdict.the-variants.{Accepted, PriceWithoutQuantity, AmountWithoutDemand, RoomTooShort}
 use Rattle.verdict.specs.Verdict.{numberOf}
-use Rattle.verdict.specs.First.{scan}
+use Rattle.verdict.specs.First.{rule_else_then_, scan}
 use Rattle.verdict.proofs.First.{scan-each}
-use Rattle.dayfile.specs.File.{areasOf}
+use Rattle.body.specs.Layout.{daysOf}
+use Rattle.dayfile.specs.File.{areasOf, peakOf, bodyAt}
 use Rattle.dayfile.specs.Check.{checkOf}
-use Rattle.settlement.specs.Settlement.{numbersNeeded, statementTo, fileDays, hoursRule, areaRule, areasRule, acceptedRule, settleWith, settleOf}
+use Rattle.surcharge.specs.Surcharge.{priceMissing}
+use Rattle.settlement.specs.Settlement.{chargeable, hourRule, numbersNeeded, statementTo, fileDays, hoursRule, areaRule, areasRule, acceptedRule, settleWith, settleOf}
 use Rattle.settlement.proofs.Accepted.{settled, refused}
 use Rattle.theorems.specs.Refused.{Refuses, hourVerdict, FirstHour, CheckRefuses, RoomShort, HourRefuses, RefusedWith}
 use Rattle.theorems.specs.Shown.{statementLeft}
@@ -132,3 +135,17 @@ module _ (file : List ℕ) (room : ℕ) (answer : Verdict) where
   pub refuses-exactly : (Refuses answer × (settleOf file room ≡ answer)) ↔ RefusedWith file room answer
   refuses-exactly =
       ((λ r. subst (RefusedWith file room) (r .1) (refused-by file room (rw (r .1) (r .0)))), ⊎-elim check-refuses (⊎-elim room-short hour-refuses))
+
+-- the number of an hour that refuses is 11 or 12
+by-tests : (priced charged : Bool) (at from : ℕ)
+    → Refuses (rule priced else PriceWithoutQuantity at then rule charged else AmountWithoutDemand from then Accepted)
+    → (numberOf (rule priced else PriceWithoutQuantity at then rule charged else AmountWithoutDemand from then Accepted) ≡ 11)
+    ⊎ (numberOf (rule priced else PriceWithoutQuantity at then rule charged else AmountWithoutDemand from then Accepted) ≡ 12)
+by-tests true true at from r = absurd (r refl)
+by-tests true false at from r = inr refl
+by-tests false charged at from r = inl refl
+
+pub eleven-or-twelve : (file : List ℕ) (k h : ℕ) → Refuses (hourVerdict file k h)
+    → (numberOf (hourVerdict file k h) ≡ 11) ⊎ (numberOf (hourVerdict file k h) ≡ 12)
+unfolding hourRule
+eleven-or-twelve file k h r = by-tests (not (priceMissing (bodyAt file k) (peakOf file) h)) (chargeable (bodyAt file k) (peakOf file) (daysOf (bodyAt file k)) h) _ _ r

@@ -21,7 +21,7 @@ use Rattle.theorems.proofs.Demands.{charges-same}
 use Rattle.theorems.proofs.Shown.{charges-shown}
 
 -- charges of either kind
-turned-charges : (kind : ℕ) (amount : ℤ) (body : List ℕ) (from count : ℕ)
+pub turned-charges : (kind : ℕ) (amount : ℤ) (body : List ℕ) (from count : ℕ)
     → chargesFrom kind (negℤ amount) body from count ≡ map negℤ (chargesFrom kind amount body from count)
 turned-charges kind amount body from count =
     dite (ℕ-discrete kind 1)

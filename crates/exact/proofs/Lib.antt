@@ -5,4 +5,3 @@ pub mod Round
 pub mod Floor
 pub mod Filling
 pub mod Lending
-pub mod Sign

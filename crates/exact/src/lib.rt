@@ -2,7 +2,7 @@
 // The laws of whole numbers, of lists that are filled and of parts that are lent stand in proofs/.
 ghost use mathlib.Core.Path.{_≡_};
 ghost use Prim.Native.Nat.{_<_};
-ghost use lib.IntN.{pos, _*ℤ_};
+ghost use lib.IntN.{pos, natAbs, _*ℤ_};
 ghost use mir.Syntax.{w64};
 ghost use mir.Val.{SFits};
 ghost use Rattle.exact.specs.Round.{roundDiv};
@@ -55,4 +55,14 @@ pub fn at_most_zero(z: i64) -> i64
         return z;
     }
     0
+}
+
+// How far z is from 0. For z below 0, -1 - z does not wrap.
+pub fn absolute(z: i64) -> u64
+    ensures { λ r. ⌜ r ≡ natAbs z ⌝ }
+{
+    if z < 0 {
+        return (-1 - z) as u64 + 1;
+    }
+    z as u64
 }

@@ -10,10 +10,11 @@ ghost use Rattle.rse8080.specs.Call.{bitsOf, bytesOf, encoded, verdictOf
 fn bits(z: i64) -> u64
     ensures { λ r. ⌜ r ≡ bitsOf z ⌝ }
 {
+    let size = exact::absolute(z);
     if z < 0 {
-        return 18446744073709551615 - ((-1 - z) as u64);
+        return 18446744073709551615 - (size - 1);
     }
-    z as u64
+    size
 }
 
 fn put_number(z: i64, bytes: &mut [u8])

@@ -64,10 +64,10 @@ fn coordinators(body: &[u8]) -> usize
 
 // A charge is within 10,000,000,000 cents, and a statement has 2,280 numbers at most: the sum does not come near the bound.
 fn sum(total: i64, charge: i64) -> i64 {
-    if 1000000000000000000 < show::magnitude(total) {
+    if 1000000000000000000 < exact::absolute(total) {
         return total;
     }
-    if 1000000000000000000 < show::magnitude(charge) {
+    if 1000000000000000000 < exact::absolute(charge) {
         return total;
     }
     total + charge

@@ -12,8 +12,8 @@ add-result c =
     let s = c .before .before .before .before in
     let total = toZ-ofZ w64 _ (s .fits .total) in
     let charge = toZ-ofZ w64 _ (s .fits .charge) in
-    let t = rw total at (c .before .before .before .magnitude .ensures) in
-    let u = rw charge at (c .before .magnitude2 .ensures) in
+    let t = rw total at (c .before .before .before .absolute .ensures) in
+    let u = rw charge at (c .before .absolute2 .ensures) in
     rw (total, charge) (within w64 _ (omega (arith, abs-add (s .args .total) (s .args .charge), t, u)))
 
 pub sum-spec : {M : Type 1} → statement M

@@ -1,22 +1,18 @@
--- A body, and a file, of which it is known that every number is in its range is accepted: so that a file that was put together can be shown to be one.
+-- A file of which it is known that every number is in its range is accepted: so that a file that was put together can be shown to be one.
 use Prim.Native.Nat.{ℕ, _+_, _/_, _≤_, _<_}
 use mathlib.Core.List.{List}
 use mathlib.Core.Path.{_≡_}
-use native.Mathlib.Omega.{arith}
 use lib.ListN.{length}
 use Rattle.words.specs.Word.{wordAt}
 use Rattle.limits.specs.declared.Limits.{Limits}
 use Rattle.verdict.specs.Verdict.{numberOf}
 use Rattle.body.specs.Layout.{kindOf}
-use Rattle.body.specs.Check.{bodyRule}
 use Rattle.body.specs.Sound.{Sound}
 use Rattle.dayfile.specs.File.{numberAt, startAt, sizeAt, numberBefore, dueAt, bodyAt, cisoBefore}
 use Rattle.dayfile.specs.Check.{checkWithin}
 use Rattle.dayfile.proofs.Entries.{Entry}
 use Rattle.dayfile.proofs.Facts.{Length, Head}
 use Rattle.acceptance.specs.WellFormed.{BodyKept}
-use Rattle.acceptance.proofs.Judged.{judged-accepts}
-use Rattle.acceptance.proofs.BodyWords.{body-judged}
 use Rattle.acceptance.proofs.Acceptance.{well-formed-accepts}
 
 -- every word of a sound body keeps its rule, where no second CISO area stands in the file
@@ -38,11 +34,6 @@ sound-kept most start body ciso s one p =
       price = λ h i l m g. s .price h i l m;
       demand = λ h i l m g. s .demand h i l m;
     }
-
-pub sound-accepts : (start : ℕ) (body : List ℕ) (limits : Limits) (ciso : ℕ) → Sound (limits .points) body → ciso + kindOf body ≤ 1
-    → numberOf (bodyRule start body limits ciso) ≡ 0
-sound-accepts start body limits ciso s one =
-    judged-accepts _ _ _ _ (body-judged start body limits ciso (omega (arith, s .size))) (sound-kept (limits .points) start body ciso s one _)
 
 module _ (limits : Limits) (file : List ℕ) where
   pub file-accepts : Length (limits .bytes) (length file)

@@ -142,7 +142,7 @@ fn bodies(limits: Limits, file: &[u8], n: usize) -> Verdict
 }
 
 // The check within given limits.
-pub fn check_within(limits: Limits, file: &[u8]) -> Verdict
+fn check_within(limits: Limits, file: &[u8]) -> Verdict
     ensures { λ r. ⌜ r ≡ checkWithin limits (now (file .entry)) ⌝ }
 {
     let most = limits.bytes;

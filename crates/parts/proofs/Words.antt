@@ -1,12 +1,12 @@
 -- A word of some bytes, by where it stands: in front, behind, or among words that were written out.
-use Prim.Native.Nat.{ℕ, zero, suc, _+_, _*_, _/_, _%_, _≤_, _<_}
+use Prim.Native.Nat.{ℕ, zero, suc, _+_, _*_, _/_, _%_, _<_}
 use mathlib.Core.List.{List, [], _∷_, _++_}
 use mathlib.Core.Logic.{dite}
 use mathlib.Core.Path.{_≡_, refl, sym, ap, _∙_}
 use native.Mathlib.Decide.{decLt}
 use native.Mathlib.Nat.{add-zero}
 use native.Mathlib.Omega.{arith}
-use lib.ListN.{length, getD, length-append, List·getD-append, List·getD-eq-default}
+use lib.ListN.{length, getD, length-append, List·getD-eq-default}
 use lib.Seq.{getD-append-add}
 use Rattle.words.specs.Word.{wordAt}
 use Rattle.parts.specs.Bytes.{wordBytes, wordsBytes, wordsFrom, Below}
@@ -16,7 +16,7 @@ module _ (xs ys : List ℕ) where
   byte-behind m k j long e = rw (e, ← long) (getD-append-add xs ys j 0)
 
   -- a word behind the first m words
-  pub word-behind : (m i : ℕ) → length xs ≡ 4 * m → wordAt (xs ++ ys) (m + i) ≡ wordAt ys i
+  word-behind : (m i : ℕ) → length xs ≡ 4 * m → wordAt (xs ++ ys) (m + i) ≡ wordAt ys i
   unfolding wordAt
   word-behind m i long =
       rw (
@@ -24,16 +24,6 @@ module _ (xs ys : List ℕ) where
         byte-behind (4 * m) (4 * (m + i) + 1) (4 * i + 1) long (omega arith),
         byte-behind (4 * m) (4 * (m + i) + 2) (4 * i + 2) long (omega arith),
         byte-behind (4 * m) (4 * (m + i) + 3) (4 * i + 3) long (omega arith),
-      )
-
-  pub word-front : (i : ℕ) → 4 * i + 4 ≤ length xs → wordAt (xs ++ ys) i ≡ wordAt xs i
-  unfolding wordAt
-  word-front i h =
-      rw (
-        List·getD-append xs ys 0 (4 * i) (omega arith),
-        List·getD-append xs ys 0 (4 * i + 1) (omega arith),
-        List·getD-append xs ys 0 (4 * i + 2) (omega arith),
-        List·getD-append xs ys 0 (4 * i + 3) (omega arith),
       )
 
 pub words-length : (words : List ℕ) → length (wordsBytes words) ≡ 4 * length words

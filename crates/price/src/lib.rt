@@ -102,7 +102,7 @@ fn check_pairs(pairs: &[u8], n: usize) -> Verdict
 }
 
 // The price of an hour with one to `most` load points.
-pub fn load_weighted_within(most: usize, pairs: &[u8]) -> PriceAnswer
+fn load_weighted_within(most: usize, pairs: &[u8]) -> PriceAnswer
     requires { ⌜ most ≤ 32 ⌝ }
     ensures { λ r. ⌜ r ≡ loadWeightedWithin most (now (pairs .entry)) ⌝ }
 {

@@ -16,7 +16,7 @@ eight : (bits : ℕ) → length (bytesOf bits) ≡ 8
 unfolding bytesOf
 eight bits = refl
 
-pub encoded-length : (numbers : List ℤ) → length (encoded numbers) ≡ 8 * length numbers
+encoded-length : (numbers : List ℤ) → length (encoded numbers) ≡ 8 * length numbers
 unfolding encoded
 encoded-length [] = refl
 encoded-length (z ∷ numbers) = simp (length-append, eight, encoded-length numbers) (omega arith)

@@ -69,7 +69,7 @@ days-last file n =
     ap (λ i. getD (fileDays file n ++ (daysOf (bodyAt file n) ∷ [])) i 0) (sym (days-length file n) ∙ sym (add-zero (length (fileDays file n))))
     ∙ getD-append-add (fileDays file n) (daysOf (bodyAt file n) ∷ []) 0 0
 
-pub days-small : (file : List ℕ) → SoundFile file → (n : ℕ) → n ≤ areasOf file → (k : ℕ) → k < n → getD (fileDays file n) k 0 ≤ 30
+days-small : (file : List ℕ) → SoundFile file → (n : ℕ) → n ≤ areasOf file → (k : ℕ) → k < n → getD (fileDays file n) k 0 ≤ 30
 unfolding fileDays
 days-small file s zero h k p = absurd (omega arith)
 days-small file s (suc n) h k p =

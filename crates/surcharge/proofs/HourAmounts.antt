@@ -28,11 +28,11 @@ on-by most hub day days tier p q false true e f h =
     let n : _≡_ {A = ℕ} 0 1 = cc in absurd (omega arith)
 on-by most hub day days tier p q false false e f h = rw f
 
-pub on-unneeded : (most : ℕ) (hub : ℤ) (day days tier : ℕ) (p q : ℤ) → needed 1 true day tier ≡ false
+on-unneeded : (most : ℕ) (hub : ℤ) (day days tier : ℕ) (p q : ℤ) → needed 1 true day tier ≡ false
     → onPeakOf most hub day days tier p ≡ onPeakOf most hub day days tier q
 on-unneeded most hub day days tier p q h = on-by most hub day days tier p q (leb day 1) (eqb tier 0) refl refl h
 
-pub off-unneeded : (upward tier : ℕ) (p q : ℤ) → leb 2 tier ≡ false → offPeakOf upward tier p ≡ offPeakOf upward tier q
+off-unneeded : (upward tier : ℕ) (p q : ℤ) → leb 2 tier ≡ false → offPeakOf upward tier p ≡ offPeakOf upward tier q
 unfolding offPeakOf
 off-unneeded upward tier p q h =
     let e : leb tier 1 ≡ true = le-leb tier 1 (omega (arith, leb-false 2 tier h)) in

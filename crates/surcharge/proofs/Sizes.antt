@@ -30,13 +30,13 @@ scaling-small tier days h =
     omega (arith, mul-le-mul (quarters-small tier) p)
 
 module _ (most : ℕ) (most-small : most ≤ 10000000) where
-  pub surcharge-small : (hub : ℤ) (tier days : ℕ) → natAbs hub ≤ 200000 → days ≤ 30 → natAbs (surchargeOf most hub tier days) ≤ 2080000000000000
+  surcharge-small : (hub : ℤ) (tier days : ℕ) → natAbs hub ≤ 200000 → days ≤ 30 → natAbs (surchargeOf most hub tier days) ≤ 2080000000000000
   unfolding surchargeOf
   surcharge-small hub tier days h d =
       let z = (pos most *ℤ hub) *ℤ pos (quarters tier * (100 + days)) in
       omega (arith, abs-at-least z, abs-mul≤ (10000000 * 200000) 1040 (pos most *ℤ hub) (pos (quarters tier * (100 + days))) (abs-mul≤ 10000000 200000 (pos most) hub most-small h) (scaling-small tier days d))
 
-  pub credit-small : (tier : ℕ) (price : ℤ) → natAbs price ≤ 20000000 → natAbs (creditOf most tier price) ≤ 800000000000000
+  credit-small : (tier : ℕ) (price : ℤ) → natAbs price ≤ 20000000 → natAbs (creditOf most tier price) ≤ 800000000000000
   unfolding creditOf
   credit-small tier price h =
       pick 800000000000000 (eqb tier 0) _ _

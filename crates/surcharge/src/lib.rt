@@ -24,9 +24,9 @@ pub struct Day {
 }
 
 // U and the tier of an hour.
-pub struct Hour {
-    pub upward: Quantity,
-    pub tier: u32,
+struct Hour {
+    upward: Quantity,
+    tier: u32,
 }
 
 // The three amounts of an hour.
@@ -37,7 +37,7 @@ pub struct Amounts {
 }
 
 // The tier of an hour; nothing is rounded.
-pub fn tier(upward: Quantity, requirement: Quantity) -> u32
+fn tier(upward: Quantity, requirement: Quantity) -> u32
     requires { ⌜ upward .0 ≤ 10000000 ⌝ }
     ensures { λ r. ⌜ r ≡ tierOf (upward .0) (requirement .0) ⌝ }
 {
@@ -58,7 +58,7 @@ pub fn tier(upward: Quantity, requirement: Quantity) -> u32
     3
 }
 
-pub fn peak_hour(peak: u32, h: usize) -> bool
+fn peak_hour(peak: u32, h: usize) -> bool
     ensures { λ r. ⌜ r ≡ peakHour peak h ⌝ }
 {
     if peak == 0 {
@@ -80,7 +80,7 @@ fn quarters_of(tier: u32) -> u32
     8
 }
 
-pub fn price_needed(flag: u32, peak: bool, day: u32, tier: u32) -> bool
+fn price_needed(flag: u32, peak: bool, day: u32, tier: u32) -> bool
     ensures { λ r. ⌜ r ≡ needed flag peak day tier ⌝ }
 {
     if flag != 1 {
@@ -261,7 +261,7 @@ pub fn day_facts(peak: u32, days: u32, body: &[u8]) -> Day
 }
 
 // The price of an hour's interval pairs, which start at word `from`: that part of the body, uncopied.
-pub fn hour_price(body: &[u8], load: usize, from: usize) -> PriceAnswer
+fn hour_price(body: &[u8], load: usize, from: usize) -> PriceAnswer
     requires { ⌜ PairsRanged (now body) load from ⌝ }
     ensures { λ r. ⌜ r ≡ priceFrom (now (body .entry)) from ⌝ }
 {

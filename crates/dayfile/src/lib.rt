@@ -6,6 +6,7 @@ ghost use Prim.Native.Nat.{_+_, _*_, _≤_, _<_, _^_};
 ghost use lib.ListN.{length};
 ghost use Rattle.words.specs.Word.{wordAt};
 ghost use Rattle.verdict.specs.Verdict.{numberOf};
+ghost use Rattle.dayfile.specs.File.{startAt, sizeAt, bodyAt};
 ghost use Rattle.dayfile.specs.Check.{headRule, headOf, entryRule, contentsRule, bodiesRule, checkWithin, checkOf};
 ghost use Rattle.dayfile.specs.Lookup.{bodyFrom, lookupOf};
 
@@ -117,6 +118,17 @@ fn contents(most: usize, file: &[u8], n: usize) -> Verdict
     Verdict::Accepted
 }
 
+// The bytes of body k, a part of the file.
+pub fn body_at(file: &[u8], k: usize) -> &[u8]
+    requires { ⌜ (16 + 12 * k + 12 ≤ length (now file)) × (4 * startAt (now file) k + 4 * sizeAt (now file) k ≤ length (now file)) ⌝ }
+    ensures { λ r. ⌜ now r ≡ bodyAt (now (file .entry)) k ⌝ }
+{
+    let at = 4 + 3 * k;
+    let from = 4 * (words::word(file, at + 1) as usize);
+    let to = from + 4 * (words::word(file, at + 2) as usize);
+    &file[from..to]
+}
+
 // The bodies of n entries whose contents are accepted, each handed on as its part of the file.
 fn bodies(limits: Limits, file: &[u8], n: usize) -> Verdict
     requires { ⌜ (1 ≤ n) × ((16 + 12 * n ≤ length (now file)) × (numberOf (contentsRule (limits .words) (now file) n) ≡ 0)) ⌝ }
@@ -125,12 +137,8 @@ fn bodies(limits: Limits, file: &[u8], n: usize) -> Verdict
     let mut ciso: u32 = 0;
     let mut area: usize = 0;
     while area < n {
-        let at = 4 + 3 * area;
-        let start = words::word(file, at + 1) as usize;
-        let length = words::word(file, at + 2) as usize;
-        let from = 4 * start;
-        let to = from + 4 * length;
-        let body = &file[from..to];
+        let start = words::word(file, 4 + 3 * area + 1) as usize;
+        let body = body_at(file, area);
         let v = body::check(limits, ciso, start, body);
         if verdict::number(v) != 0 {
             return v;
@@ -182,11 +190,8 @@ fn find(file: &[u8], area: u32) -> &[u8]
     let n = words::word(file, 2) as usize;
     let mut k: usize = 0;
     while k < n {
-        let at = 4 + 3 * k;
-        if words::word(file, at) == area {
-            let from = 4 * (words::word(file, at + 1) as usize);
-            let to = from + 4 * (words::word(file, at + 2) as usize);
-            return &file[from..to];
+        if words::word(file, 4 + 3 * k) == area {
+            return body_at(file, k);
         }
         k += 1;
     }

@@ -1,16 +1,12 @@
 -- The areas of a sound file: their coordinators, the numbers that they need, and their blocks.
-use Prim.Native.Nat.{ℕ, zero, suc, _+_, _*_, _/_, _≤_, _<_}
+use Prim.Native.Nat.{ℕ, zero, suc, _+_, _*_, _≤_, _<_}
 use mathlib.Core.List.{List, _++_}
-use mathlib.Core.Path.{_≡_, refl, sym, ap, _∙_}
+use mathlib.Core.Path.{_≡_, refl, _∙_}
 use native.Mathlib.Decide.{le-ind}
 use native.Mathlib.Nat.{le-refl, le-trans}
 use native.Mathlib.Numerals.{add-one}
 use native.Mathlib.Omega.{arith}
-use lib.IntN.{ℤ}
 use lib.ListN.{length, getD, length-append}
-use Rattle.exact.proofs.Lending.{part-length}
-use Rattle.words.specs.Word.{wordAt}
-use Rattle.words.proofs.Part.{word-part}
 use Rattle.body.specs.Layout.{coordinatorsOf}
 use Rattle.dayfile.specs.File.{areasOf, peakOf, startAt, sizeAt, bodyAt}
 use Rattle.statement.specs.Block.{areaNumbers, block}
@@ -35,15 +31,12 @@ module _ (file : List ℕ) where
 
   module _ (sound : SoundFile file) where
     module _ (k : ℕ) (below : k < areasOf file) where
-      pub body-bytes : length (bodyAt file k) ≡ 4 * sizeAt file k
-      body-bytes = part-length file (4 * startAt file k) (4 * sizeAt file k) (sound .inside k below)
+      -- the entry and the body lie within the file
+      pub placed : (16 + 12 * k + 12 ≤ length file) × (4 * startAt file k + 4 * sizeAt file k ≤ length file)
+      placed = (omega (arith, sound .room, below), sound .inside k below)
 
-      pub head-inside : 800 ≤ sizeAt file k
-      head-inside = omega (arith, body-bytes, sound .body k below .size, sound .body k below .points, sound .body k below .coordinators)
-
-      -- the word of K
-      pub count-is : wordAt file (startAt file k + 6) ≡ coordinatorsOf (bodyAt file k)
-      count-is = sym (word-part file (startAt file k) (sizeAt file k) 6 (omega (arith, head-inside)))
+      pub head-inside : 28 ≤ length (bodyAt file k)
+      head-inside = omega (arith, sound .body k below .size)
 
       pub count-few : coordinatorsOf (bodyAt file k) ≤ 64
       count-few = demands-ranged (bodyAt file k) (sound .body k below) 0 (omega arith) .few

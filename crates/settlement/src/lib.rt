@@ -20,8 +20,7 @@ pub fn numbers_needed(file: &[u8], n: usize) -> usize
     let mut needed: usize = 0;
     let mut k: usize = 0;
     while k < n {
-        let start = words::word(file, 4 + 3 * k + 1) as usize;
-        let count = words::word(file, start + 6) as usize;
+        let count = words::word(dayfile::body_at(file, k), 6) as usize;
         needed += 24 * (3 + count);
         k += 1;
     }
@@ -38,10 +37,7 @@ fn write_areas(peak: u32, days: &[u32], file: &[u8], n: usize, statement: &mut [
     let mut to: usize = 0;
     let mut k: usize = 0;
     while k < n {
-        let at = 4 + 3 * k;
-        let from = 4 * (words::word(file, at + 1) as usize);
-        let end = from + 4 * (words::word(file, at + 2) as usize);
-        let body = &file[from..end];
+        let body = dayfile::body_at(file, k);
         statement::write_area(peak, days[k], body, &mut statement[to..]);
         to += 24 * (3 + (words::word(body, 6) as usize));
         k += 1;
@@ -130,11 +126,8 @@ fn check_areas(peak: u32, days: &[u32], file: &[u8], n: usize) -> Verdict
 {
     let mut k: usize = 0;
     while k < n {
-        let at = 4 + 3 * k;
-        let start = words::word(file, at + 1) as usize;
-        let from = 4 * start;
-        let end = from + 4 * (words::word(file, at + 2) as usize);
-        let v = check_area(peak, days[k], start, &file[from..end]);
+        let start = words::word(file, 4 + 3 * k + 1) as usize;
+        let v = check_area(peak, days[k], start, dayfile::body_at(file, k));
         if verdict::number(v) != 0 {
             return v;
         }
@@ -151,8 +144,7 @@ fn file_days(file: &[u8], n: usize) -> [u32; 32]
     let mut days = [0u32; 32];
     let mut k: usize = 0;
     while k < n {
-        let start = words::word(file, 4 + 3 * k + 1) as usize;
-        days[k] = words::word(file, start + 2);
+        days[k] = words::word(dayfile::body_at(file, k), 2);
         k += 1;
     }
     days

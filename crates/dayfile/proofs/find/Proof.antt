@@ -3,7 +3,7 @@ use denote.Ref.{now}
 use Prim.Native.Nat.{ℕ, suc, _+_, _*_, _-_, _/_, _≤_, _<_}
 use mathlib.Core.Bool.{cond}
 use mathlib.Core.List.{List, []}
-use mathlib.Core.Path.{_≡_, refl, sym, ap, _∙_}
+use mathlib.Core.Path.{_≡_, sym, _∙_}
 use native.Mathlib.Omega.{arith}
 use native.Mathlib.Nat.{sub-zero}
 use native.Mathlib.Numerals.{add-one}
@@ -63,40 +63,19 @@ word-requires c κs = let h = contents (c .before) in omega arith
 loop-holds : tie.Need-loop-holds Inv-loop μ-loop
 loop-holds c = (omega arith, c .word .ensures, rw (sub-zero, c .word .ensures))
 
-mul-at : tie.Need-mul-at Inv-loop μ-loop
-mul-at c = omega (arith, room c)
-
-add-at : tie.Need-add-at Inv-loop μ-loop
-add-at c = omega (arith, room c)
-
 word-requires-2 : tie.Need-word-requires-2 Inv-loop μ-loop
 word-requires-2 c κs = omega (arith, room c)
 
-add-word : tie.Need-add-word Inv-loop μ-loop
-add-word c = omega (arith, room (c .before .before))
-
-word-requires-3 : tie.Need-word-requires-3 Inv-loop μ-loop
-word-requires-3 c κs = omega (arith, room (c .before .before))
-
-add-word-2 : tie.Need-add-word-2 Inv-loop μ-loop
-add-word-2 c = omega (arith, room (c .before .before .before))
-
-word-requires-4 : tie.Need-word-requires-4 Inv-loop μ-loop
-word-requires-4 c κs = omega (arith, room (c .before .before .before))
-
-part-result-end : tie.Need-part-result-end Inv-loop μ-loop
-part-result-end c =
-    let s = c .before .before .before .before .before .before .before .before in
-    let e = file-entry editionOne (now (s .args .file)) (accepted s) (c .before .before .before .before .before .loop .k) (omega (arith, c .before .before .before .before .loop-test .taken)) in
-    omega (arith, e .inside)
+body-at-requires : tie.Need-body-at-requires Inv-loop μ-loop
+body-at-requires c κs =
+    let s = c .before .before .before .before .before .before in
+    let e = file-entry editionOne (now (s .args .file)) (accepted s) (c .before .before .before .loop .k) (omega (arith, c .before .before .loop-test .taken)) in
+    (omega (arith, room (c .before .before)), omega (arith, e .inside))
 
 returns : tie.Need-returns Inv-loop μ-loop
 returns c =
-    let l = c .before .before .before .before .before .before in
-    let a = 4 * c .before .before .word3 .result in
-    let n = 4 * c .before .word4 .result in
-    let p : a + n - a ≡ n = omega arith in
-    sym (l .loop .inv .2 ∙ here _ _ _ _ (omega arith) (sym (c .before .before .before .before .word2 .ensures) ∙ c .before .before .before .if1 .taken) ∙ (cc p))
+    let l = c .before .before .before .before in
+    sym (l .loop .inv .2 ∙ here _ _ _ _ (omega arith) (sym (c .before .before .word2 .ensures) ∙ c .before .if1 .taken) ∙ sym (c .body-at .ensures))
 
 loop-again : tie.Need-loop-again Inv-loop μ-loop
 loop-again c =
@@ -118,21 +97,10 @@ find-spec =
     word-requires
     (λ c. search needs)
     loop-holds
-    mul-at
-    add-at
+    (λ c. search needs)
+    (λ c. search needs)
     word-requires-2
-    add-word
-    word-requires-3
-    (λ c. search needs)
-    (λ c. search needs)
-    add-word-2
-    word-requires-4
-    (λ c. search needs)
-    (λ c. search needs)
-    (λ c. search needs)
-    (λ c. search needs)
-    (λ c. search needs)
-    part-result-end
+    body-at-requires
     returns
     (λ c. search needs)
     (λ c. search needs)

@@ -1,19 +1,18 @@
 use borrow.Author.Needs.{needs}
 use denote.Ref.{now}
-use Prim.Native.Nat.{ℕ, _+_, _*_, _-_, _≤_, _<_}
+use Prim.Native.Nat.{ℕ, _+_, _-_, _≤_, _<_}
 use mathlib.Core.List.{List, _++_}
-use mathlib.Core.Path.{_≡_, refl, sym, ap, ap₂, _∙_}
+use mathlib.Core.Path.{_≡_, refl, sym, ap, _∙_}
 use native.Mathlib.Omega.{arith}
 use lib.IntN.{ℤ}
 use lib.ListN.{length, getD, take, drop, length-take, length-drop}
 use borrow.Rule.Slice.PartMut.{putMid}
 use Rattle.exact.proofs.Lending.{lent-back}
 use Rattle.body.specs.Layout.{coordinatorsOf}
-use Rattle.body.specs.Sound.{Sound}
-use Rattle.dayfile.specs.File.{areasOf, peakOf, startAt, sizeAt, bodyAt}
+use Rattle.dayfile.specs.File.{areasOf, peakOf, bodyAt}
 use Rattle.statement.specs.Block.{areaNumbers, block}
 use Rattle.settlement.specs.Settlement.{neededTo, statementTo}
-use Rattle.settlement.proofs.Areas.{needed-more, needed-small, needed-within, statement-more, statement-length, body-bytes, head-inside, count-few}
+use Rattle.settlement.proofs.Areas.{needed-more, needed-within, statement-more, statement-length, placed, head-inside}
 use Rattle.settlement.proofs.write_areas.Statement.{statement}
 use Rattle.settlement.proofs.write_areas.Tie as tie
 
@@ -26,23 +25,6 @@ abbrev μ-loop : tie.MeasureT-loop
 
 below : (c : tie.In-loop Inv-loop μ-loop) → c .before .loop .k < areasOf (now (c .before .before .before .before .args .file))
 below c = omega (arith, c .before .before .before .before .pre .0 .1 .0, c .loop-test .taken)
-
-entry : (c : tie.In-loop Inv-loop μ-loop) → 4 * (4 + 3 * c .before .loop .k) + 12 ≤ length (now (c .before .before .before .before .args .file))
-entry c = let s = c .before .before .before .before in omega (arith, s .pre .0 .0 .room, below c)
-
-inside : (c : tie.After-word2 Inv-loop μ-loop) → 4 * c .before .word .result + 4 * c .word2 .result ≤ length (now (c .before .before .before .before .before .before .args .file))
-inside c = let s = c .before .before .before .before .before .before in omega (arith, c .before .word .ensures, c .word2 .ensures, s .pre .0 .0 .inside (c .before .before .before .loop .k) (below (c .before .before)))
-
--- the part of the file that is handed on is the body of area k
-part : (c : tie.After-word2 Inv-loop μ-loop) → let f = now (c .before .before .before .before .before .before .args .file) in let a = 4 * c .before .word .result in let m = 4 * c .word2 .result in take (a + m - a) (drop a f) ≡ bodyAt f (c .before .before .before .loop .k)
-part c =
-    let a = 4 * c .before .word .result in
-    let m = 4 * c .word2 .result in
-    let p : a + m - a ≡ m = omega arith in
-    cc
-
-sound : (c : tie.After-word2 Inv-loop μ-loop) → Sound 32 (bodyAt (now (c .before .before .before .before .before .before .args .file)) (c .before .before .before .loop .k))
-sound c = c .before .before .before .before .before .before .pre .0 .0 .body (c .before .before .before .loop .k) (below (c .before .before))
 
 -- the part of area k lies within the statement
 room : (c : tie.In-loop Inv-loop μ-loop) → let f = now (c .before .before .before .before .args .file) in c .before .loop .to + areaNumbers (coordinatorsOf (bodyAt f (c .before .loop .k))) ≤ length (c .before .loop .statement)
@@ -58,63 +40,48 @@ step file days k to m before xs more long stands came =
     lent-back (statementTo file days k) before (block (peakOf file) (getD days k 0) (bodyAt file k)) xs more to m long stands came
     ∙ ap (λ w. w ++ drop (to + m) before) (sym (statement-more file days k))
 
+count : (c : tie.After-word Inv-loop μ-loop) → c .word .result ≡ coordinatorsOf (bodyAt (now (c .before .before .before .before .before .before .before .before .before .before .args .file)) (c .before .before .before .before .before .before .before .loop .k))
+count c = c .word .ensures ∙ ap coordinatorsOf (c .before .before .before .before .before .body-at .ensures)
+
 loop-holds : tie.Need-loop-holds Inv-loop μ-loop
 unfolding neededTo statementTo
 loop-holds c = (omega arith, refl, refl, refl)
 
-mul-at : tie.Need-mul-at Inv-loop μ-loop
-mul-at c = let r = entry c in omega arith
-
-add-at : tie.Need-add-at Inv-loop μ-loop
-add-at c = let r = entry c in omega arith
-
-add-word : tie.Need-add-word Inv-loop μ-loop
-add-word c = let r = entry c in omega arith
-
-word-requires : tie.Need-word-requires Inv-loop μ-loop
-word-requires c κs = let r = entry c in omega arith
-
-add-word-2 : tie.Need-add-word-2 Inv-loop μ-loop
-add-word-2 c = let r = entry (c .before) in omega arith
-
-word-requires-2 : tie.Need-word-requires-2 Inv-loop μ-loop
-word-requires-2 c κs = let r = entry (c .before) in omega arith
-
-part-body-end : tie.Need-part-body-end Inv-loop μ-loop
-part-body-end c = let r = inside c in omega arith
+body-at-requires : tie.Need-body-at-requires Inv-loop μ-loop
+body-at-requires c κs = placed _ (c .before .before .before .before .pre .0 .0) _ (below c)
 
 mul-write-area-2 : tie.Need-mul-write-area-2 Inv-loop μ-loop
-mul-write-area-2 c = let r = room (c .before .before .before .before) in omega arith
+mul-write-area-2 c = let r = room (c .before .before) in omega arith
 
 sub-write-area : tie.Need-sub-write-area Inv-loop μ-loop
-sub-write-area c = let r = room (c .before .before .before .before) in omega arith
+sub-write-area c = let r = room (c .before .before) in omega arith
 
 part-write-area-start : tie.Need-part-write-area-start Inv-loop μ-loop
-part-write-area-start c = let r = room (c .before .before .before .before) in omega arith
+part-write-area-start c = let r = room (c .before .before) in omega arith
 
 write-area-requires : tie.Need-write-area-requires Inv-loop μ-loop
 write-area-requires c κs =
-    let s = c .before .before .before .before .before .before .before .before .before in
-    let l = c .before .before .before .before .before .before .loop in
-    rw (part (c .before .before .before))
-    ((sound (c .before .before .before), s .pre .1 .0 .1 (l .k) (c .before .before .before .before .before .loop-test .taken)), simp (length-take, length-drop) (omega (arith, room (c .before .before .before .before .before))))
+    let s = c .before .before .before .before .before .before .before in
+    let k = c .before .before .before .before .loop .k in
+    rw (c .before .before .body-at .ensures)
+    ((s .pre .0 .0 .body k (below (c .before .before .before)), s .pre .1 .0 .1 k (c .before .before .before .loop-test .taken)), simp (length-take, length-drop) (omega (arith, room (c .before .before .before))))
 
-word-requires-3 : tie.Need-word-requires-3 Inv-loop μ-loop
-word-requires-3 c κs = let f = now (c .before .before .before .before .before .before .before .before .before .before .before .args .file) in rw (part (c .before .before .before .before .before)) (omega (arith, body-bytes f (c .before .before .before .before .before .before .before .before .before .before .before .pre .0 .0) (c .before .before .before .before .before .before .before .before .loop .k) (below (c .before .before .before .before .before .before .before)), head-inside f (c .before .before .before .before .before .before .before .before .before .before .before .pre .0 .0) (c .before .before .before .before .before .before .before .before .loop .k) (below (c .before .before .before .before .before .before .before))))
+word-requires : tie.Need-word-requires Inv-loop μ-loop
+word-requires c κs = rw (c .before .before .before .before .body-at .ensures) (head-inside _ (c .before .before .before .before .before .before .before .before .before .pre .0 .0) _ (below (c .before .before .before .before .before)))
 
 add-to-2 : tie.Need-add-to-2 Inv-loop μ-loop
-add-to-2 c = let r = room (c .before .before .before .before .before .before .before .before) in let k = c .word3 .ensures ∙ ap coordinatorsOf (part (c .before .before .before .before .before .before)) in omega arith
+add-to-2 c = let r = room (c .before .before .before .before .before .before) in let n = count c in omega arith
 
 loop-again : tie.Need-loop-again Inv-loop μ-loop
 loop-again c =
-    let s = c .before .before .before .before .before .before .before .before .before .before .before .before in
+    let s = c .before .before .before .before .before .before .before .before .before .before in
     let a = s .args in
     let f = now (a .file) in
-    let l = c .before .before .before .before .before .before .before .before .before .loop in
-    let k = c .word3 .ensures ∙ ap coordinatorsOf (part (c .before .before .before .before .before .before)) in (
+    let l = c .before .before .before .before .before .before .before .loop in
+    let n = count c in (
       omega arith,
-      rw k (omega (arith, needed-more f (l .k), l .inv .1)),
-      rw k (step f (now (a .days)) (l .k) (l .to) (areaNumbers (coordinatorsOf (bodyAt f (l .k)))) (now (a .statement)) (l .statement) _ (statement-length f (s .pre .0 .0) (now (a .days)) (l .k) (omega (arith, below (c .before .before .before .before .before .before .before .before))) ∙ sym (l .inv .1)) (l .inv .2) (rw (part (c .before .before .before .before .before .before), s .pre .0 .1 .1) at (c .before .before .write-area .ensures))),
+      rw n (omega (arith, needed-more f (l .k), l .inv .1)),
+      rw n (step f (now (a .days)) (l .k) (l .to) (areaNumbers (coordinatorsOf (bodyAt f (l .k)))) (now (a .statement)) (l .statement) _ (statement-length f (s .pre .0 .0) (now (a .days)) (l .k) (omega (arith, below (c .before .before .before .before .before .before))) ∙ sym (l .inv .1)) (l .inv .2) (rw (c .before .before .before .before .before .body-at .ensures, s .pre .0 .1 .1) at (c .before .before .write-area .ensures))),
       omega arith,
     )
 
@@ -134,20 +101,7 @@ write-areas-spec =
     Inv-loop
     μ-loop
     loop-holds
-    mul-at
-    add-at
-    add-word
-    word-requires
-    (λ c. search needs)
-    (λ c. search needs)
-    add-word-2
-    word-requires-2
-    (λ c. search needs)
-    (λ c. search needs)
-    (λ c. search needs)
-    (λ c. search needs)
-    (λ c. search needs)
-    part-body-end
+    body-at-requires
     (λ c. search needs)
     (λ c. search needs)
     mul-write-area-2
@@ -155,7 +109,7 @@ write-areas-spec =
     part-write-area-start
     (λ c. search needs)
     write-area-requires
-    word-requires-3
+    word-requires
     (λ c. search needs)
     (λ c. search needs)
     (λ c. search needs)

@@ -12,7 +12,8 @@ use borrow.Author.Tests.{eqb-true, eq-eqb}
 use Rattle.words.specs.Word.{wordAt, signedOf}
 use Rattle.limits.specs.declared.Limits.{Limits}
 use Rattle.verdict.specs.declared.Verdict.the-variants.{Accepted, BadContents, BadBodyHead, BadCoordinator}
-use Rattle.body.specs.Layout.{bodyWords, hourWords, hourStart, coordinatorBefore}
+use Rattle.hour.specs.Layout.{hourWords}
+use Rattle.body.specs.Layout.{bodyWords, hourStart, coordinatorBefore}
 use Rattle.body.specs.Check.{mostCoordinators, headRule, countRule, coordinatorRule, headOf, frontRule, coordinatorOf, coordinatorsRule, hourOf, hoursRule, bodyRule}
 use Rattle.body.proofs.HourPlaces.{hour-next}
 use Rattle.body.proofs.Rules.{front-size}

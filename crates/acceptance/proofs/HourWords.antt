@@ -9,8 +9,8 @@ use lib.IntN.{natAbs}
 use borrow.Author.Tests.{leb-true, le-leb}
 use Rattle.words.specs.Word.{wordAt, signedOf}
 use Rattle.verdict.specs.declared.Verdict.the-variants.{Accepted, OutOfRange, RunningDemandTooLarge}
-use Rattle.body.specs.Layout.{missing, runningDemand, hourWords}
-use Rattle.body.specs.Check.{rangeRule, pairRule, demandRule, deficiencyOf, deficienciesRule, intervalOf, intervalsRule, demandOf, demandsRule, numbersRule, hourRule}
+use Rattle.hour.specs.Layout.{missing, runningDemand, hourWords}
+use Rattle.hour.specs.Check.{rangeRule, pairRule, demandRule, deficiencyOf, deficienciesRule, intervalOf, intervalsRule, demandOf, demandsRule, numbersRule, hourRule}
 use Rattle.acceptance.proofs.Judged.{Judged, Nothing, Word, Both, Each, accepted-judged, rule-judged, most-judged, and-judged, scan-judged}
 
 -- ---- one number or pair

@@ -11,7 +11,8 @@ use Rattle.words.specs.Word.{wordAt, signedOf}
 use Rattle.limits.specs.declared.Limits.{Limits}
 use Rattle.limits.specs.Editions.{editionOne}
 use Rattle.calendar.specs.Date.{realDate}
-use Rattle.body.specs.Layout.{bodyWords, missing, kindOf, flagOf, daysOf, hubPriceA, hubPriceB, pointsOf, coordinatorsOf, coordinatorAt, coordinatorBefore, hourAt, deficiencyAt, requirementAt, mecAt, intervalsAt, quantityAt, priceAt, demandsAt, demandAt, runningDemand}
+use Rattle.hour.specs.Layout.{missing, runningDemand}
+use Rattle.body.specs.Layout.{bodyWords, kindOf, flagOf, daysOf, hubPriceA, hubPriceB, pointsOf, coordinatorsOf, coordinatorAt, coordinatorBefore, hourAt, deficiencyAt, requirementAt, mecAt, intervalsAt, quantityAt, priceAt, demandsAt, demandAt}
 use Rattle.body.specs.Check.{mostCoordinators}
 use Rattle.dayfile.specs.File.{dayOf, areasOf, peakOf, numberAt, startAt, sizeAt, numberBefore, dueAt, bodyAt, cisoBefore}
 

@@ -10,11 +10,14 @@ use Rattle.words.specs.Word.{wordAt, signedOf}
 use Rattle.limits.specs.declared.Limits.{Limits}
 use Rattle.verdict.specs.Verdict.{numberOf}
 use Rattle.verdict.proofs.First.{or-first, or-second, scan-each}
-use Rattle.body.specs.Layout.{bodyWords, hourWords, missing, runningDemand, demandsAt, hourAt, quantityAt, priceAt, kindOf, pointsOf, coordinatorsOf}
-use Rattle.body.specs.Check.{mostCoordinators, headOf, frontRule, coordinatorOf, coordinatorsRule, deficiencyOf, deficienciesRule, intervalOf, intervalsRule, demandOf, demandsRule, numbersRule, hourRule, hourOf, hoursRule, bodyRule}
+use Rattle.hour.specs.Layout.{hourWords, missing, runningDemand}
+use Rattle.body.specs.Layout.{bodyWords, demandsAt, hourAt, quantityAt, priceAt, kindOf, pointsOf, coordinatorsOf}
+use Rattle.hour.specs.Check.{deficiencyOf, deficienciesRule, intervalOf, intervalsRule, demandOf, demandsRule, numbersRule, hourRule}
+use Rattle.body.specs.Check.{mostCoordinators, headOf, frontRule, coordinatorOf, coordinatorsRule, hourOf, hoursRule, bodyRule}
 use Rattle.body.specs.Sound.{Sound}
 use Rattle.body.proofs.HourPlaces.{hour-room}
-use Rattle.body.proofs.Rules.{Head, head-kept, count-kept, coordinator-kept, range-kept, pair-kept, demand-kept}
+use Rattle.hour.proofs.Rules.{range-kept, pair-kept, demand-kept}
+use Rattle.body.proofs.Rules.{Head, head-kept, count-kept, coordinator-kept}
 
 module _ (start : ℕ) (body : List ℕ) (limits : Limits) (ciso : ℕ) (accepted : numberOf (bodyRule start body limits ciso) ≡ 0) where
   head : Head (limits .points) ciso (wordAt body 0) (wordAt body 1) (wordAt body 2) (natAbs (signedOf (wordAt body 3))) (natAbs (signedOf (wordAt body 4))) (wordAt body 5)

@@ -1,10 +1,11 @@
 -- Where the hours of a body stand.
-use Prim.Native.Nat.{ℕ, _+_, _*_, _≤_, _<_}
+use Prim.Native.Nat.{ℕ, _+_, _≤_, _<_}
 use mathlib.Core.Path.{_≡_}
 use native.Mathlib.Omega.{arith}
 use native.Mathlib.Numerals.{add-one}
 use native.Mathlib.Nat.{suc-mul, mul-le-mul-right}
-use Rattle.body.specs.Layout.{hourWords, bodyWords, hourStart}
+use Rattle.hour.specs.Layout.{hourWords}
+use Rattle.body.specs.Layout.{bodyWords, hourStart}
 
 module _ (points coordinators h : ℕ) where
   pub hour-next : hourStart points coordinators (h + 1) ≡ hourStart points coordinators h + hourWords points coordinators

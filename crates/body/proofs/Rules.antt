@@ -1,18 +1,17 @@
 -- What is known of a number whose rule was kept.
 use Prim.Native.Nat.{ℕ, _+_, _/_, _≤_, _<_}
-use mathlib.Core.Bool.{false, _&&_, _||_}
+use mathlib.Core.Bool.{_&&_}
 use mathlib.Core.List.{List}
 use mathlib.Core.Path.{_≡_}
 use native.Mathlib.Omega.{arith}
 use lib.Dec.{leb, ltb, eqb}
-use lib.IntN.{natAbs}
 use lib.ListN.{length}
 use borrow.Author.Tests.{leb-true, ltb-true, eqb-true}
-use Rattle.words.specs.Word.{wordAt, signedOf}
+use Rattle.words.specs.Word.{wordAt}
 use Rattle.verdict.specs.Verdict.{numberOf}
 use Rattle.verdict.proofs.First.{kept, both, or-second}
-use Rattle.body.specs.Layout.{bodyWords, missing}
-use Rattle.body.specs.Check.{headRule, countRule, frontRule, coordinatorRule, rangeRule, pairRule, demandRule}
+use Rattle.body.specs.Layout.{bodyWords}
+use Rattle.body.specs.Check.{headRule, countRule, frontRule, coordinatorRule}
 
 pub record Head (points ciso kind flag days hubA hubB load : ℕ) : Type 0 where
   pub kind-known : kind ≤ 1
@@ -67,20 +66,3 @@ coordinator-kept place before number z =
     let p = kept (ltb before number && leb number 2147483647) _ _ (λ q. omega arith) z in
     let b = both (ltb before number) _ (p .0) in
     (ltb-true _ _ (b .0), leb-true _ _ (b .1))
-
-pub range-kept : (place most number : ℕ) → numberOf (rangeRule place most number) ≡ 0 → number ≤ most
-range-kept place most number z = leb-true _ _ (kept (leb number most) _ _ (λ q. omega arith) z .0)
-
-pub pair-kept : (place next quantity price : ℕ) → numberOf (pairRule place next quantity price) ≡ 0
-    → (quantity ≤ 10000000) × (missing price ≡ false → natAbs (signedOf price) ≤ 20000000)
-pair-kept place next quantity price z =
-    let p = kept (leb quantity 10000000) _ _ (λ q. omega arith) z in
-    let r = kept (missing price || leb (natAbs (signedOf price)) 20000000) _ _ (λ q. omega arith) (p .1) in
-    (leb-true _ _ (p .0), λ there. leb-true _ _ (simp there at (r .0)))
-
-pub demand-kept : (place before demand : ℕ) → numberOf (demandRule place before demand) ≡ 0
-    → (demand ≤ 100000000) × (before + demand ≤ 100000000)
-demand-kept place before demand z =
-    let p = kept (leb demand 100000000) _ _ (λ q. omega arith) z in
-    let r = kept (leb (before + demand) 100000000) _ _ (λ q. omega arith) (p .1) in
-    (leb-true _ _ (p .0), leb-true _ _ (r .0))

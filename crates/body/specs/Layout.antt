@@ -1,16 +1,11 @@
 -- Where each number of a body stands. A body is the bytes of one area; its words are counted from its own start.
 use Prim.Native.Nat.{ℕ, zero, suc, _+_, _*_}
-use mathlib.Core.Bool.{Bool}
 use mathlib.Core.List.{List}
-use lib.Dec.{eqb}
 use lib.IntN.{ℤ}
 use Rattle.words.specs.Word.{wordAt, signedOf}
+use Rattle.hour.specs.Layout.{hourWords}
 
 -- ---- sizes
-
--- the words of an hour, with so many load points and coordinators
-abbrev pub hourWords : ℕ → ℕ → ℕ
-hourWords points coordinators = 8 + 24 * points + coordinators
 
 -- "Body words = 7 + K + 24(8 + 24L + K)"
 abbrev pub bodyWords : ℕ → ℕ → ℕ
@@ -19,10 +14,6 @@ bodyWords points coordinators = 7 + coordinators + 24 * hourWords points coordin
 -- the first word of hour h, from 0: the hour ending h + 1
 unfoldable pub hourStart : ℕ → ℕ → ℕ → ℕ
 hourStart points coordinators h = 7 + coordinators + h * hourWords points coordinators
-
--- "is -2,147,483,648: missing"
-abbrev pub missing : ℕ → Bool
-missing price = eqb price 2147483648
 
 module _ (body : List ℕ) where
   -- ---- the head
@@ -94,8 +85,3 @@ module _ (body : List ℕ) where
 
   abbrev pub demandAt : ℕ → ℕ → ℕ
   demandAt h i = wordAt body (demandsAt h + i)
-
-  -- the running demand: the sum of the first n of the demands from a word on
-  unfoldable pub runningDemand : ℕ → ℕ → ℕ
-  runningDemand from zero = 0
-  runningDemand from (suc n) = runningDemand from n + wordAt body (from + n)

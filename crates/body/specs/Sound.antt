@@ -6,7 +6,8 @@ use mathlib.Core.Path.{_≡_}
 use lib.IntN.{natAbs}
 use lib.ListN.{length}
 use Rattle.words.specs.Word.{signedOf}
-use Rattle.body.specs.Layout.{bodyWords, missing, kindOf, flagOf, daysOf, hubPriceA, hubPriceB, pointsOf, coordinatorsOf, coordinatorAt, coordinatorBefore, deficiencyAt, requirementAt, mecAt, quantityAt, priceAt, demandsAt, demandAt, runningDemand}
+use Rattle.hour.specs.Layout.{missing, runningDemand}
+use Rattle.body.specs.Layout.{bodyWords, kindOf, flagOf, daysOf, hubPriceA, hubPriceB, pointsOf, coordinatorsOf, coordinatorAt, coordinatorBefore, deficiencyAt, requirementAt, mecAt, quantityAt, priceAt, demandsAt, demandAt}
 use Rattle.body.specs.Check.{mostCoordinators}
 
 pub record Sound (most : ℕ) (body : List ℕ) : Type 0 where

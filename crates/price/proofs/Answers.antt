@@ -1,9 +1,9 @@
 -- The answer of an average, how large its price gets, and what a kept check of the pairs tells.
-use Prim.Native.Nat.{ℕ, _≤_, _<_, zero-le}
+use Prim.Native.Nat.{ℕ, _+_, _*_, _≤_, _<_, zero-le}
 use mathlib.Core.Bool.{Bool, true, false}
 use mathlib.Core.List.{List}
 use mathlib.Core.Path.{_≡_, refl}
-use native.Mathlib.Nat.{le-refl}
+use native.Mathlib.Nat.{le-refl, zero-add}
 use native.Mathlib.Omega.{arith}
 use lib.Dec.{eqb}
 use lib.IntN.{natAbs}
@@ -12,12 +12,13 @@ use Rattle.exact.specs.Round.{roundDiv}
 use Rattle.exact.proofs.Round.{round-within}
 use Rattle.verdict.specs.Verdict.{numberOf}
 use Rattle.verdict.proofs.First.{scan-each}
-use Rattle.words.specs.Word.{signedOf}
-use Rattle.body.specs.Layout.{missing}
-use Rattle.body.proofs.Rules.{pair-kept}
+use Rattle.words.specs.Word.{wordAt, signedOf}
+use Rattle.hour.specs.Layout.{missing}
+use Rattle.hour.specs.Check.{intervalOf, intervalsRule}
+use Rattle.hour.proofs.Rules.{pair-kept}
 use Rattle.price.specs.declared.Average.{Average}
 use Rattle.price.specs.declared.PriceAnswer.the-variants.{Price, NoQuantity}
-use Rattle.price.specs.Price.{answerOf, answerPrice, averageOf, averagePrice, quantityOf, priceOf, pairOf, pairsRule}
+use Rattle.price.specs.Price.{answerOf, answerPrice, averageOf, averagePrice, quantityOf, priceOf}
 use Rattle.price.specs.Ranged.{Ranged}
 use Rattle.price.proofs.Sizes.{Sized, average-sized}
 
@@ -30,10 +31,12 @@ module _ (average : Average) where
   unfolding answerOf
   some-quantity e = simp (ne-eqb _ _ e)
 
-module _ (pairs : List ℕ) (n : ℕ) (accepted : numberOf (pairsRule pairs n) ≡ 0) where
+module _ (pairs : List ℕ) (n : ℕ) (accepted : numberOf (intervalsRule 0 pairs 0 n) ≡ 0) where
   pair : (i : ℕ) → i < n → (quantityOf pairs i ≤ 10000000) × (missing (priceOf pairs i) ≡ false → natAbs (signedOf (priceOf pairs i)) ≤ 20000000)
-  unfolding pairsRule pairOf
-  pair i p = pair-kept i i (quantityOf pairs i) (priceOf pairs i) (scan-each (pairOf pairs) n accepted i p)
+  unfolding intervalsRule intervalOf
+  pair i p =
+      let at = 0 + 2 * i in
+      simp zero-add at (pair-kept (0 + at) (0 + (at + 1)) (wordAt pairs at) (wordAt pairs (at + 1)) (scan-each (intervalOf 0 pairs 0) n accepted i p))
 
   pub pairs-ranged : Ranged pairs n
   pairs-ranged = record { quantity = λ i p. pair i p .0; price = λ i p. pair i p .1 }

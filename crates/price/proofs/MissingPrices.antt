@@ -4,7 +4,7 @@ use Prim.Native.Nat.{ℕ, zero, suc}
 use mathlib.Core.Bool.{Bool, true, false}
 use mathlib.Core.List.{List, [], _∷_, _++_}
 use mathlib.Core.Path.{_≡_, refl, sym, ap, _∙_}
-use Rattle.body.specs.Layout.{missing}
+use Rattle.hour.specs.Layout.{missing}
 use Rattle.price.specs.declared.Average.{Average}
 use Rattle.price.specs.Price.{emptyAverage, withInterval, averageOf, quantityOf, priceOf}
 use Rattle.price.specs.Intervals.{averageOver, present, firstIntervals}

@@ -1,15 +1,15 @@
 -- How large an average gets: it stays within the greatest price times its quantity.
-use Prim.Native.Nat.{ℕ, zero, suc, _+_, _*_, _≤_, _<_, zero-le}
+use Prim.Native.Nat.{ℕ, zero, suc, _+_, _*_, _≤_, zero-le}
 use mathlib.Core.Bool.{Bool, true, false}
 use mathlib.Core.List.{List}
 use mathlib.Core.Path.{_≡_, refl}
 use native.Mathlib.Omega.{arith}
-use native.Mathlib.Nat.{mul-le-mul, mul-comm, le-refl}
+use native.Mathlib.Nat.{mul-le-mul, le-refl}
 use native.Mathlib.Numerals.{add-one}
 use lib.IntN.{pos, natAbs, _*ℤ_}
 use Rattle.exact.proofs.Magnitude.{abs-add, abs-mul}
 use Rattle.words.specs.Word.{signedOf}
-use Rattle.body.specs.Layout.{missing}
+use Rattle.hour.specs.Layout.{missing}
 use Rattle.price.specs.declared.Average.{Average}
 use Rattle.price.specs.Price.{withInterval, averageOf, quantityOf, priceOf}
 use Rattle.price.specs.Ranged.{Ranged}

@@ -2,7 +2,7 @@
 use Prim.Native.Nat.{ℕ, zero, suc}
 use mathlib.Core.Bool.{cond}
 use mathlib.Core.List.{List, [], _∷_, _++_}
-use Rattle.body.specs.Layout.{missing}
+use Rattle.hour.specs.Layout.{missing}
 use Rattle.price.specs.declared.Average.{Average}
 use Rattle.price.specs.Price.{withInterval, quantityOf, priceOf}
 

@@ -8,13 +8,10 @@ use lib.IntN.{ℤ, pos, _+ℤ_, _*ℤ_}
 use lib.ListN.{length}
 use Rattle.exact.specs.Round.{roundDiv}
 use Rattle.words.specs.Word.{wordAt, signedOf}
-use Rattle.verdict.specs.declared.Verdict.{Verdict}
 use Rattle.verdict.specs.Verdict.{numberOf, placeOf}
-use Rattle.verdict.specs.First.{scan}
-use Rattle.limits.specs.declared.Limits.{Limits}
 use Rattle.limits.specs.Editions.{editionOne}
-use Rattle.body.specs.Layout.{missing}
-use Rattle.body.specs.Check.{pairRule}
+use Rattle.hour.specs.Layout.{missing}
+use Rattle.hour.specs.Check.{intervalsRule}
 use Rattle.price.specs.declared.Average.{Average}
 use Rattle.price.specs.declared.PriceAnswer.{PriceAnswer}
 use Rattle.price.specs.declared.PriceAnswer.the-variants.{Price, BadLength, OutOfRange, NoQuantity}
@@ -57,21 +54,13 @@ averagePrice pairs n = answerOf (averageOf pairs n)
 abbrev pub lengthKnown : ℕ → ℕ → Bool
 lengthKnown most bytes = eqb (bytes % 96) 0 && leb 96 bytes && leb bytes (96 * most)
 
-module _ (pairs : List ℕ) where
-  unfoldable pub pairOf : ℕ → Verdict
-  pairOf i = pairRule i i (quantityOf pairs i) (priceOf pairs i)
-
-  -- the first pair with a number out of range
-  unfoldable pub pairsRule : ℕ → Verdict
-  pairsRule n = scan pairOf 0 n
-
--- 1 for another length, then 9 with the number of the first bad pair, then 11
+-- 1 for another length, then 9 with the number of the first bad pair, half of the place of its bad word, then 11
 unfoldable pub loadWeightedWithin : ℕ → List ℕ → PriceAnswer
 loadWeightedWithin most pairs =
     cond (lengthKnown most (length pairs))
-    (cond (eqb (numberOf (pairsRule pairs (length pairs / 8))) 0)
+    (cond (eqb (numberOf (intervalsRule 0 pairs 0 (length pairs / 8))) 0)
     (averagePrice pairs (length pairs / 8))
-    (OutOfRange (placeOf (pairsRule pairs (length pairs / 8)))))
+    (OutOfRange (placeOf (intervalsRule 0 pairs 0 (length pairs / 8)) / 2)))
     BadLength
 
 unfoldable pub loadWeighted : List ℕ → PriceAnswer

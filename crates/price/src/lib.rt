@@ -2,12 +2,11 @@
 use units::CentsOver100000;
 use units::MarketPrice;
 use units::Quantity;
-use verdict::Verdict;
 ghost use mathlib.Core.Path.{_≡_};
 ghost use Prim.Native.Nat.{_+_, _*_, _/_, _≤_, _<_, _^_};
 ghost use lib.IntN.{natAbs};
 ghost use lib.ListN.{length};
-ghost use Rattle.price.specs.Price.{emptyAverage, withInterval, averageOf, answerOf, averagePrice, pairsRule, loadWeightedWithin, loadWeighted, answerNumber, answerPlace, answerPrice};
+ghost use Rattle.price.specs.Price.{emptyAverage, withInterval, averageOf, answerOf, averagePrice, loadWeightedWithin, loadWeighted, answerNumber, answerPlace, answerPrice};
 ghost use Rattle.price.specs.Ranged.{Ranged};
 
 // The sum of quantity × price over the intervals whose price is present, and the sum of the same quantities.
@@ -80,27 +79,6 @@ pub fn average_price(pairs: &[u8], n: usize) -> PriceAnswer
     PriceAnswer::Price(value.per(quantity))
 }
 
-// The first pair with a number out of range.
-fn check_pairs(pairs: &[u8], n: usize) -> Verdict
-    requires { ⌜ 8 * n ≤ length (now pairs) ⌝ }
-    ensures { λ r. ⌜ r ≡ pairsRule (now (pairs .entry)) n ⌝ }
-{
-    let mut i: usize = 0;
-    while i < n {
-        let v = body::pair(
-            i,
-            i,
-            words::word(pairs, 2 * i),
-            words::word(pairs, 2 * i + 1),
-        );
-        if verdict::number(v) != 0 {
-            return v;
-        }
-        i += 1;
-    }
-    Verdict::Accepted
-}
-
 // The price of an hour with one to `most` load points.
 fn load_weighted_within(most: usize, pairs: &[u8]) -> PriceAnswer
     requires { ⌜ most ≤ 32 ⌝ }
@@ -116,10 +94,10 @@ fn load_weighted_within(most: usize, pairs: &[u8]) -> PriceAnswer
         return PriceAnswer::BadLength;
     }
     let n = pairs.len() / 8;
-    let v = check_pairs(pairs, n);
+    let v = hour::intervals(0, pairs, 0, n);
     if verdict::number(v) != 0 {
         return PriceAnswer::OutOfRange {
-            pair: verdict::place(v),
+            pair: verdict::place(v) / 2,
         };
     }
     average_price(pairs, n)

@@ -13,7 +13,8 @@ use Rattle.words.specs.Word.{wordAt, signedOf}
 use Rattle.verdict.specs.First.{_orElse_, scan}
 use Rattle.limits.specs.Editions.{editionOne}
 use Rattle.price.specs.declared.PriceAnswer.the-variants.{Price}
-use Rattle.price.specs.Price.{emptyAverage, withInterval, averageOf, answerOf, pairOf, pairsRule, loadWeightedWithin, loadWeighted}
+use Rattle.hour.specs.Check.{intervalOf, intervalsRule}
+use Rattle.price.specs.Price.{emptyAverage, withInterval, averageOf, answerOf, loadWeightedWithin, loadWeighted}
 use Rattle.price.specs.Intervals.{averageOver, firstIntervals}
 use Rattle.shares.specs.Shares.{total, sum, sharesFrom, shares, mergedAt}
 use Rattle.surcharge.specs.Surcharge.{tierOf, greaterPrice, surchargeOf, creditOf, onPeakOf, offPeakOf, downwardOf}
@@ -74,7 +75,7 @@ pub record Figures : Type 0 where
   pub case-P : (tierOf 40000 60000 ≡ 3) × (offPeakOf 40000 (tierOf 40000 60000) (pos 250000) ≡ pos 200000)
 
 pub figures : Figures
-unfolding roundDiv atLeastZero atMostZero wordAt signedOf _orElse_ scan editionOne withInterval averageOf answerOf pairOf pairsRule loadWeightedWithin loadWeighted averageOver firstIntervals total sum sharesFrom shares surchargeOf creditOf onPeakOf offPeakOf downwardOf
+unfolding roundDiv atLeastZero atMostZero wordAt signedOf _orElse_ scan editionOne withInterval averageOf answerOf intervalOf intervalsRule loadWeightedWithin loadWeighted averageOver firstIntervals total sum sharesFrom shares surchargeOf creditOf onPeakOf offPeakOf downwardOf
 figures =
     record {
       T1 = (refl, refl);

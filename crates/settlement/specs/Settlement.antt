@@ -9,7 +9,8 @@ use Rattle.verdict.specs.declared.Verdict.{Verdict}
 use Rattle.verdict.specs.declared.Verdict.the-variants.{Accepted, PriceWithoutQuantity, AmountWithoutDemand, RoomTooShort}
 use Rattle.verdict.specs.Verdict.{numberOf}
 use Rattle.verdict.specs.First.{rule_else_then_, _orElse_, scan}
-use Rattle.body.specs.Layout.{kindOf, daysOf, coordinatorsOf, intervalsAt, demandsAt, runningDemand}
+use Rattle.hour.specs.Layout.{runningDemand}
+use Rattle.body.specs.Layout.{kindOf, daysOf, coordinatorsOf, intervalsAt, demandsAt}
 use Rattle.dayfile.specs.File.{areasOf, peakOf, startAt, bodyAt}
 use Rattle.dayfile.specs.Check.{checkOf}
 use Rattle.surcharge.specs.Surcharge.{amountAt, priceMissing}

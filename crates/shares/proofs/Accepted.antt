@@ -14,7 +14,7 @@ use lib.Seq.{take-length}
 use borrow.Author.Tests.{leb-true, ltb-true, eqb-true}
 use Rattle.verdict.specs.Verdict.{numberOf}
 use Rattle.verdict.proofs.First.{kept, or-first, or-second, scan-each}
-use Rattle.body.proofs.Rules.{demand-kept}
+use Rattle.hour.proofs.Rules.{demand-kept}
 use Rattle.shares.specs.Shares.{total}
 use Rattle.shares.specs.Rows.{demandBefore, rowOf, rowsRule, columnsRule}
 use Rattle.shares.proofs.Totals.{before-next}

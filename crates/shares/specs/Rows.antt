@@ -9,7 +9,8 @@ use Rattle.verdict.specs.declared.Verdict.{Verdict}
 use Rattle.verdict.specs.declared.Verdict.the-variants.{Accepted, BadLength, AmountWithoutDemand, RoomTooShort, AmountBeyondRange}
 use Rattle.verdict.specs.Verdict.{numberOf}
 use Rattle.verdict.specs.First.{rule_else_then_, _orElse_, scan}
-use Rattle.body.specs.Check.{coordinatorRule, demandRule}
+use Rattle.hour.specs.Check.{demandRule}
+use Rattle.body.specs.Check.{coordinatorRule}
 use Rattle.shares.specs.declared.Row.{Row}
 use Rattle.shares.specs.Shares.{total, shares}
 

@@ -10,7 +10,8 @@ use lib.Dec.{eqb}
 use lib.ListN.{length, length-append}
 use borrow.Author.Tests.{eq-eqb}
 use Rattle.words.specs.Word.{wordAt}
-use Rattle.body.specs.Layout.{kindOf, coordinatorsOf, hourAt, runningDemand}
+use Rattle.hour.specs.Layout.{runningDemand}
+use Rattle.body.specs.Layout.{kindOf, coordinatorsOf, hourAt}
 use Rattle.body.specs.Check.{mostCoordinators}
 use Rattle.body.specs.Sound.{Sound}
 use Rattle.body.proofs.Facts.{hour-inside, hour-demand}

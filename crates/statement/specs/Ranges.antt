@@ -4,7 +4,8 @@ use mathlib.Core.List.{List}
 use mathlib.Core.Path.{_≡_}
 use lib.IntN.{natAbs}
 use lib.ListN.{length}
-use Rattle.body.specs.Layout.{kindOf, pointsOf, coordinatorsOf, runningDemand}
+use Rattle.hour.specs.Layout.{runningDemand}
+use Rattle.body.specs.Layout.{kindOf, pointsOf, coordinatorsOf}
 use Rattle.surcharge.specs.declared.Amounts.{Amounts}
 
 pub record AmountsRanged (amounts : Amounts) : Type 0 where

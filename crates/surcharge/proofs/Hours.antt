@@ -11,7 +11,8 @@ use lib.ListN.{length, take, drop}
 use lib.Signed.{ltZ}
 use Rattle.words.specs.Word.{wordAt, signedOf}
 use Rattle.words.proofs.Part.{word-part}
-use Rattle.body.specs.Layout.{missing, hourAt, intervalsAt, pointsOf, quantityAt, priceAt, hubPriceA, hubPriceB}
+use Rattle.hour.specs.Layout.{missing}
+use Rattle.body.specs.Layout.{hourAt, intervalsAt, pointsOf, quantityAt, priceAt, hubPriceA, hubPriceB}
 use Rattle.body.specs.Sound.{Sound}
 use Rattle.body.proofs.Facts.{hour-inside}
 use Rattle.price.specs.Price.{quantityOf, priceOf}

@@ -7,7 +7,8 @@ use native.Mathlib.Decide.{ℕ-discrete}
 use lib.IntN.{ℤ, pos, _+ℤ_, +ℤ-idr}
 use lib.ListN.{length}
 use Rattle.verdict.specs.Verdict.{numberOf}
-use Rattle.body.specs.Layout.{kindOf, daysOf, coordinatorsOf, demandsAt, runningDemand}
+use Rattle.hour.specs.Layout.{runningDemand}
+use Rattle.body.specs.Layout.{kindOf, daysOf, coordinatorsOf, demandsAt}
 use Rattle.dayfile.specs.File.{areasOf, peakOf, startAt, bodyAt}
 use Rattle.shares.specs.Shares.{sum}
 use Rattle.shares.proofs.AddsUp.{adds-up}

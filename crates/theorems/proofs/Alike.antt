@@ -6,7 +6,8 @@ use mathlib.Core.Logic.{_⊎_, inl, inr, ⊎-elim}
 use mathlib.Core.Path.{_≡_, refl, sym, ap₂}
 use native.Mathlib.Omega.{arith}
 use Rattle.words.specs.Word.{wordAt}
-use Rattle.body.specs.Layout.{missing, pointsOf, coordinatorsOf, hourAt, intervalsAt, priceAt, quantityAt, demandsAt, demandAt, runningDemand}
+use Rattle.hour.specs.Layout.{missing, runningDemand}
+use Rattle.body.specs.Layout.{pointsOf, coordinatorsOf, hourAt, intervalsAt, priceAt, quantityAt, demandsAt, demandAt}
 use Rattle.surcharge.specs.Surcharge.{amountAt}
 use Rattle.statement.specs.Block.{chargesAt, hourBlock, hoursBlock, block}
 use Rattle.settlement.specs.Settlement.{chargeable, hourRule, hoursRule}

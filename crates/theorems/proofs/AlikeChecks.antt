@@ -9,7 +9,8 @@ use Rattle.words.specs.Word.{wordAt}
 use Rattle.limits.specs.declared.Limits.{Limits}
 use Rattle.verdict.specs.First.{_orElse_}
 use Rattle.body.specs.Layout.{hourAt, pointsOf, coordinatorsOf, coordinatorBefore, intervalsAt, quantityAt, demandsAt}
-use Rattle.body.specs.Check.{coordinatorOf, coordinatorsRule, deficiencyOf, deficienciesRule, intervalOf, intervalsRule, demandOf, demandsRule, numbersRule, hourRule, hourOf, hoursRule, headOf, frontRule, bodyRule}
+use Rattle.hour.specs.Check.{deficiencyOf, deficienciesRule, intervalOf, intervalsRule, demandOf, demandsRule, numbersRule, hourRule}
+use Rattle.body.specs.Check.{coordinatorOf, coordinatorsRule, hourOf, hoursRule, headOf, frontRule, bodyRule}
 use Rattle.theorems.proofs.Alike.{Alike, points, coordinators, demand-same}
 use Rattle.theorems.proofs.FirstIndex.{scan-same}
 

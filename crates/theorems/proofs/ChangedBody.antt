@@ -8,7 +8,8 @@ use native.Mathlib.Decide.{ℕ-discrete, decLt}
 use native.Mathlib.Nat.{suc-mul, mul-le-mul-right}
 use native.Mathlib.Omega.{arith}
 use Rattle.words.specs.Word.{wordAt}
-use Rattle.body.specs.Layout.{missing, hourWords, hourStart, pointsOf, coordinatorsOf, hourAt, intervalsAt, priceAt, quantityAt}
+use Rattle.hour.specs.Layout.{missing, hourWords}
+use Rattle.body.specs.Layout.{hourStart, pointsOf, coordinatorsOf, hourAt, intervalsAt, priceAt, quantityAt}
 use Rattle.theorems.specs.Changed.{ChangedAt, quantityWord, PriceIsMissing}
 use Rattle.theorems.proofs.Alike.{Alike}
 

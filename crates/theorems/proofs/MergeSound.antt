@@ -8,7 +8,8 @@ use native.Mathlib.Nat.{eq-or-lt-of-le, le-refl, le-trans}
 use native.Mathlib.Omega.{arith}
 use lib.ListN.{length}
 use Rattle.words.specs.Word.{wordAt}
-use Rattle.body.specs.Layout.{coordinatorsOf, coordinatorAt, coordinatorBefore, demandsAt, demandAt, runningDemand}
+use Rattle.hour.specs.Layout.{runningDemand}
+use Rattle.body.specs.Layout.{coordinatorsOf, coordinatorAt, coordinatorBefore, demandsAt, demandAt}
 use Rattle.body.specs.Sound.{Sound}
 use Rattle.body.proofs.Facts.{hour-demand}
 use Rattle.parts.specs.Bytes.{Below, wordsFrom}

@@ -6,7 +6,8 @@ use native.Mathlib.Omega.{arith}
 use lib.ListN.{length, getD, take, drop, length-append, take-append-drop, List·getD-append}
 use lib.Seq.{getD-append-add, getD-at, ext-getD}
 use Rattle.words.specs.Word.{wordAt}
-use Rattle.body.specs.Layout.{kindOf, pointsOf, coordinatorsOf, hourWords, bodyWords, hourStart, hourAt, demandsAt}
+use Rattle.hour.specs.Layout.{hourWords}
+use Rattle.body.specs.Layout.{kindOf, pointsOf, coordinatorsOf, bodyWords, hourStart, hourAt, demandsAt}
 use Rattle.body.specs.Sound.{Sound}
 use Rattle.body.proofs.Facts.{hour-demand}
 use Rattle.body.proofs.HourPlaces.{hour-room}

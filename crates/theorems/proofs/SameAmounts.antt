@@ -9,7 +9,8 @@ use native.Mathlib.Omega.{arith}
 use lib.ListN.{take, drop}
 use Rattle.words.specs.Word.{wordAt, signedOf}
 use Rattle.words.proofs.Part.{word-part}
-use Rattle.body.specs.Layout.{missing, kindOf, flagOf, pointsOf, hourAt, intervalsAt, quantityAt, priceAt}
+use Rattle.hour.specs.Layout.{missing}
+use Rattle.body.specs.Layout.{kindOf, flagOf, pointsOf, hourAt, intervalsAt, quantityAt, priceAt}
 use Rattle.price.specs.Price.{withInterval, quantityOf, priceOf, averageOf, answerOf}
 use Rattle.price.specs.declared.Average.{Average}
 use Rattle.price.proofs.MissingPrices.{missing-changes-nothing}

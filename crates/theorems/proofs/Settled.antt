@@ -10,7 +10,8 @@ use lib.IntN.{pos, natAbs}
 use borrow.Author.Tests.{eqb-true, eqb-false, ltb-true, not-true}
 use Rattle.verdict.specs.Verdict.{numberOf}
 use Rattle.verdict.proofs.First.{kept, or-second, scan-each}
-use Rattle.body.specs.Layout.{kindOf, daysOf, coordinatorsOf, demandsAt, runningDemand}
+use Rattle.hour.specs.Layout.{runningDemand}
+use Rattle.body.specs.Layout.{kindOf, daysOf, coordinatorsOf, demandsAt}
 use Rattle.dayfile.specs.File.{areasOf, peakOf, startAt, bodyAt}
 use Rattle.dayfile.specs.Check.{checkOf}
 use Rattle.surcharge.specs.Surcharge.{amountAt, priceMissing}

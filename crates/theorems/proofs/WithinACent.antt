@@ -7,7 +7,8 @@ use lib.IntN.{ℤ, pos, natAbs}
 use lib.ListN.{length, getD}
 use Rattle.verdict.specs.Verdict.{numberOf}
 use Rattle.words.specs.Word.{wordAt}
-use Rattle.body.specs.Layout.{kindOf, daysOf, coordinatorsOf, demandsAt, demandAt, runningDemand}
+use Rattle.hour.specs.Layout.{runningDemand}
+use Rattle.body.specs.Layout.{kindOf, daysOf, coordinatorsOf, demandsAt, demandAt}
 use Rattle.dayfile.specs.File.{areasOf, peakOf, bodyAt}
 use Rattle.shares.specs.Shares.{shares, apart}
 use Rattle.shares.proofs.WithinACent.{within-a-cent}

@@ -5,7 +5,8 @@ use mathlib.Core.List.{List}
 use mathlib.Core.Path.{_≡_}
 use lib.ListN.{length, set}
 use Rattle.words.specs.Word.{wordAt}
-use Rattle.body.specs.Layout.{missing, pointsOf, intervalsAt, priceAt}
+use Rattle.hour.specs.Layout.{missing}
+use Rattle.body.specs.Layout.{pointsOf, intervalsAt, priceAt}
 use Rattle.dayfile.specs.File.{startAt, bodyAt}
 
 -- the same bytes but for one word: as many, and every other word as it was

@@ -2,7 +2,8 @@
 use Prim.Native.Nat.{ℕ, _<_}
 use mathlib.Core.List.{List}
 use mathlib.Core.Path.{_≡_}
-use Rattle.body.specs.Layout.{kindOf, coordinatorsOf, demandsAt, demandAt, runningDemand}
+use Rattle.hour.specs.Layout.{runningDemand}
+use Rattle.body.specs.Layout.{kindOf, coordinatorsOf, demandsAt, demandAt}
 
 -- T of hour h, the demands of its K coordinators
 abbrev pub totalDemand : List ℕ → ℕ → ℕ

@@ -1,13 +1,14 @@
 use borrow.Author.Needs.{needs}
 use denote.Ref.{now}
-use Prim.Native.Nat.{ℕ, _+_, _*_, _-_, _≤_}
-use mathlib.Core.Path.{_≡_, refl, sym, ap, _∙_}
+use Prim.Native.Nat.{_+_, _*_, _-_, _≤_}
+use mathlib.Core.Path.{_≡_, refl, sym}
 use native.Mathlib.Omega.{arith}
 use native.Mathlib.Nat.{zero-mul, add-zero}
 use lib.ListN.{length}
 use Rattle.verdict.specs.First.{scan}
 use Rattle.verdict.proofs.First.{loop-next, loop-stop, loop-done}
-use Rattle.body.specs.Layout.{hourStart, hourWords}
+use Rattle.hour.specs.Layout.{hourWords}
+use Rattle.body.specs.Layout.{hourStart}
 use Rattle.body.specs.Check.{hourOf, hoursRule}
 use Rattle.body.proofs.HourPlaces.{hour-next, hour-room}
 use Rattle.body.proofs.hours.Statement.{statement}
@@ -23,7 +24,7 @@ abbrev μ-loop : tie.MeasureT-loop
 room : (c : tie.In-loop Inv-loop μ-loop) → let s = c .before .before .before .args in 4 * (c .before .loop .at + hourWords (s .load) (s .count)) ≤ length (now (s .body))
 room c = let s = c .before .before .before .args in omega (arith, hour-room (s .load) (s .count) (c .before .loop .h) (omega arith))
 
-turn : (c : tie.After-hour Inv-loop μ-loop) → let s = c .before .before .before .before .args in c .hour .result ≡ hourOf (s .start) (now (s .body)) (s .load) (s .count) (c .before .before .loop .h)
+turn : (c : tie.After-check Inv-loop μ-loop) → let s = c .before .before .before .before .args in c .check .result ≡ hourOf (s .start) (now (s .body)) (s .load) (s .count) (c .before .before .loop .h)
 unfolding hourOf
 turn c = cc
 
@@ -31,8 +32,8 @@ loop-holds : tie.Need-loop-holds Inv-loop μ-loop
 unfolding hoursRule hourStart
 loop-holds c = (omega arith, rw zero-mul (sym (add-zero _)), refl)
 
-hour-requires : tie.Need-hour-requires Inv-loop μ-loop
-hour-requires c κs = omega (arith, room c)
+check-requires : tie.Need-check-requires Inv-loop μ-loop
+check-requires c κs = omega (arith, room c)
 
 returns : tie.Need-returns Inv-loop μ-loop
 returns c = let e = turn (c .before .before) in search loop-stop
@@ -66,7 +67,7 @@ hours-spec =
     μ-loop
     (λ c. search needs)
     loop-holds
-    hour-requires
+    check-requires
     (λ c κs. search needs)
     returns
     mul-at

@@ -1,6 +1,6 @@
 use borrow.Author.Needs.{needs}
 use denote.Ref.{now}
-use Prim.Native.Nat.{ℕ, _/_}
+use Prim.Native.Nat.{_/_}
 use mathlib.Core.Bool.{cond}
 use mathlib.Core.Path.{_≡_, sym, ap, _∙_}
 use native.Mathlib.Omega.{arith}
@@ -9,19 +9,20 @@ use lib.ListN.{length}
 use borrow.Author.Tests.{eq-eqb, ne-eqb}
 use Rattle.verdict.specs.Verdict.{numberOf, placeOf}
 use Rattle.verdict.proofs.Tests.{tests}
+use Rattle.hour.specs.Check.{intervalsRule}
 use Rattle.price.specs.declared.PriceAnswer.the-variants.{OutOfRange}
-use Rattle.price.specs.Price.{averagePrice, pairsRule, loadWeightedWithin}
+use Rattle.price.specs.Price.{averagePrice, loadWeightedWithin}
 use Rattle.price.proofs.Answers.{pairs-ranged}
 use Rattle.price.proofs.load_weighted_within.Statement.{statement}
 use Rattle.price.proofs.load_weighted_within.Tie as tie
 
 -- what is left past the length
-opened : (c : tie.Else3) → let s = c .before .before .before .before .args in let p = now (s .pairs) in let n = length p / 8 in loadWeightedWithin (s .most) p ≡ cond (eqb (numberOf (pairsRule p n)) 0) (averagePrice p n) (OutOfRange (placeOf (pairsRule p n)))
+opened : (c : tie.Else3) → let s = c .before .before .before .before .args in let p = now (s .pairs) in let n = length p / 8 in loadWeightedWithin (s .most) p ≡ cond (eqb (numberOf (intervalsRule 0 p 0 n)) 0) (averagePrice p n) (OutOfRange (placeOf (intervalsRule 0 p 0 n) / 2))
 unfolding loadWeightedWithin
 opened c = search tests
 
-tested : (c : tie.After-number) → let p = now (c .before .before .before .before .before .before .args .pairs) in c .number .result ≡ numberOf (pairsRule p (length p / 8))
-tested c = c .number .ensures ∙ ap numberOf (c .before .check-pairs .ensures)
+tested : (c : tie.After-number) → let p = now (c .before .before .before .before .before .before .args .pairs) in c .number .result ≡ numberOf (intervalsRule 0 p 0 (length p / 8))
+tested c = c .number .ensures ∙ ap numberOf (c .before .intervals .ensures)
 
 returns : tie.Need-returns
 unfolding loadWeightedWithin
@@ -37,7 +38,7 @@ returns-3 c = search tests
 
 returns-4 : tie.Need-returns-4
 returns-4 c =
-    ap OutOfRange (c .place .ensures ∙ ap placeOf (c .before .before .before .check-pairs .ensures))
+    ap (λ w. OutOfRange (w / 2)) (c .place .ensures ∙ ap placeOf (c .before .before .before .intervals .ensures))
     ∙ sym (opened (c .before .before .before .before) ∙ simp (ne-eqb _ _ (λ q. c .before .if4 .taken (tested (c .before .before) ∙ q))))
 
 average-price-requires : tie.Need-average-price-requires

@@ -10,7 +10,8 @@ use borrow.Author.Tests.{eq-eqb, ne-eqb, lt-ltb}
 use mir.Syntax.{w64}
 use mir.ValLaws.{toZ-ofZ}
 use Rattle.exact.proofs.Machine.{within}
-use Rattle.body.specs.Layout.{hourAt, pointsOf, coordinatorsOf, demandsAt, runningDemand, kindOf}
+use Rattle.hour.specs.Layout.{runningDemand}
+use Rattle.body.specs.Layout.{hourAt, pointsOf, coordinatorsOf, demandsAt, kindOf}
 use Rattle.body.proofs.Facts.{hour-demand}
 use Rattle.surcharge.specs.Surcharge.{amountAt}
 use Rattle.surcharge.proofs.AmountSizes.{amount-small}

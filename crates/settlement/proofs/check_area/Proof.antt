@@ -7,7 +7,8 @@ use native.Mathlib.Omega.{arith}
 use lib.ListN.{length}
 use Rattle.verdict.specs.First.{scan}
 use Rattle.verdict.proofs.First.{loop-next, loop-stop, loop-done}
-use Rattle.body.specs.Layout.{hourAt, hourStart, hourWords, pointsOf, coordinatorsOf}
+use Rattle.hour.specs.Layout.{hourWords}
+use Rattle.body.specs.Layout.{hourAt, hourStart, pointsOf, coordinatorsOf}
 use Rattle.body.proofs.HourPlaces.{hour-next}
 use Rattle.body.proofs.Facts.{hour-inside}
 use Rattle.surcharge.specs.Surcharge.{dayOf}

@@ -6,7 +6,7 @@ use native.Mathlib.Numerals.{add-one}
 use native.Mathlib.Omega.{arith}
 use mathlib.Core.List.{List}
 use Rattle.words.specs.Word.{wordAt}
-use Rattle.body.specs.Layout.{runningDemand}
+use Rattle.hour.specs.Layout.{runningDemand}
 use Rattle.settlement.proofs.total_demand.Statement.{statement}
 use Rattle.settlement.proofs.total_demand.Tie as tie
 

@@ -9,7 +9,7 @@ use lib.ListN.{length, getD}
 use Rattle.verdict.specs.Verdict.{numberOf}
 use Rattle.verdict.specs.First.{scan}
 use Rattle.verdict.proofs.First.{or-second, loop-next, loop-stop, loop-done}
-use Rattle.body.proofs.Rules.{demand-kept}
+use Rattle.hour.proofs.Rules.{demand-kept}
 use Rattle.shares.specs.Shares.{total}
 use Rattle.shares.specs.Rows.{coordinatorBefore, demandBefore, rowOf, rowsRule}
 use Rattle.shares.proofs.Totals.{before-next}

@@ -7,7 +7,7 @@ use native.Mathlib.Omega.{arith}
 use lib.ListN.{length, drop}
 use mir.Syntax.{w64}
 use mir.ValLaws.{toZ-ofZ}
-use Rattle.body.specs.Layout.{runningDemand}
+use Rattle.hour.specs.Layout.{runningDemand}
 use Rattle.statement.specs.Block.{chargesFrom}
 use Rattle.statement.proofs.hour_charges.Statement.{statement}
 use Rattle.statement.proofs.hour_charges.Tie as tie

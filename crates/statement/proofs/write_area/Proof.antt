@@ -10,7 +10,8 @@ use lib.IntN.{ℤ}
 use lib.ListN.{length, take, drop, length-take, length-drop}
 use borrow.Rule.Slice.PartMut.{putMid}
 use Rattle.exact.proofs.Lending.{lent-back}
-use Rattle.body.specs.Layout.{hourAt, hourStart, hourWords, pointsOf, coordinatorsOf}
+use Rattle.hour.specs.Layout.{hourWords}
+use Rattle.body.specs.Layout.{hourAt, hourStart, pointsOf, coordinatorsOf}
 use Rattle.body.proofs.HourPlaces.{hour-next}
 use Rattle.body.proofs.Facts.{hour-inside}
 use Rattle.surcharge.specs.Surcharge.{dayOf}

@@ -6,7 +6,8 @@ use mathlib.Core.Path.{_≡_, refl, sym, ap, ap₂, _∙_}
 use native.Mathlib.Nat.{zero-mul, add-zero}
 use native.Mathlib.Omega.{arith}
 use lib.ListN.{length}
-use Rattle.body.specs.Layout.{hourStart, hourWords, hourAt, pointsOf, coordinatorsOf}
+use Rattle.hour.specs.Layout.{hourWords}
+use Rattle.body.specs.Layout.{hourStart, hourAt, pointsOf, coordinatorsOf}
 use Rattle.body.proofs.HourPlaces.{hour-next}
 use Rattle.body.proofs.Facts.{hour-inside}
 use Rattle.surcharge.specs.Surcharge.{peakHour, highest, upwardFrom, upwardAt, tierAt, hourOf}

@@ -1,19 +1,15 @@
 use borrow.Author.Needs.{needs}
 use denote.Ref.{now}
-use Prim.Native.Nat.{ℕ, _+_, _*_, _/_, _≤_}
+use Prim.Native.Nat.{ℕ, _+_}
 use mathlib.Core.List.{List}
-use mathlib.Core.Path.{_≡_, refl, sym, ap, _∙_}
-use native.Mathlib.Omega.{arith}
+use mathlib.Core.Path.{_≡_, refl, sym, _∙_}
 use lib.IntN.{natAbs}
-use lib.ListN.{length}
 use Rattle.words.specs.Word.{wordAt, signedOf}
-use Rattle.limits.specs.declared.Limits.{Limits}
-use Rattle.verdict.specs.Verdict.{numberOf}
 use Rattle.verdict.specs.First.{_orElse_}
 use Rattle.verdict.proofs.First.{seq-next, seq-stop}
-use Rattle.body.specs.Check.{rangeRule, deficienciesRule, numbersRule}
-use Rattle.body.proofs.numbers.Statement.{statement}
-use Rattle.body.proofs.numbers.Tie as tie
+use Rattle.hour.specs.Check.{rangeRule, deficienciesRule, numbersRule}
+use Rattle.hour.proofs.numbers.Statement.{statement}
+use Rattle.hour.proofs.numbers.Tie as tie
 
 opened : (start : ℕ) (body : List ℕ) (at : ℕ) → numbersRule start body at ≡ (deficienciesRule start body at orElse rangeRule (start + (at + 6)) 50000000 (wordAt body (at + 6)) orElse rangeRule (start + (at + 7)) 20000000 (natAbs (signedOf (wordAt body (at + 7)))))
 unfolding numbersRule

@@ -1,6 +1,6 @@
 use borrow.Author.Needs.{needs}
 use denote.Ref.{now}
-use Prim.Native.Nat.{ℕ, _+_, _*_, _-_, _≤_}
+use Prim.Native.Nat.{_+_, _-_, _≤_}
 use mathlib.Core.Path.{_≡_, refl, sym, ap, _∙_}
 use native.Mathlib.Omega.{arith}
 use native.Mathlib.Nat.{sub-zero}
@@ -8,11 +8,11 @@ use native.Mathlib.Numerals.{add-one}
 use Rattle.verdict.specs.First.{scan}
 use Rattle.verdict.proofs.First.{loop-next, loop-stop, loop-done}
 use Rattle.verdict.specs.Verdict.{numberOf}
-use Rattle.body.specs.Layout.{runningDemand}
-use Rattle.body.specs.Check.{demandOf, demandsRule}
-use Rattle.body.proofs.Rules.{demand-kept}
-use Rattle.body.proofs.demands.Statement.{statement}
-use Rattle.body.proofs.demands.Tie as tie
+use Rattle.hour.specs.Layout.{runningDemand}
+use Rattle.hour.specs.Check.{demandOf, demandsRule}
+use Rattle.hour.proofs.Rules.{demand-kept}
+use Rattle.hour.proofs.demands.Statement.{statement}
+use Rattle.hour.proofs.demands.Tie as tie
 
 abbrev Inv-loop : tie.InvT-loop
 Inv-loop start body from count running₀ i₀ running i =

@@ -1,30 +1,29 @@
 use borrow.Author.Needs.{needs}
 use denote.Ref.{now}
-use Prim.Native.Nat.{ℕ, _+_, _*_, _-_, _≤_}
-use mathlib.Core.Path.{_≡_, refl, sym, ap, _∙_}
+use Prim.Native.Nat.{_-_, _≤_}
+use mathlib.Core.Path.{_≡_}
 use native.Mathlib.Omega.{arith}
 use native.Mathlib.Nat.{sub-zero}
-use native.Mathlib.Numerals.{add-one}
 use Rattle.verdict.specs.First.{scan}
 use Rattle.verdict.proofs.First.{loop-next, loop-stop, loop-done}
-use Rattle.body.specs.Check.{deficiencyOf, deficienciesRule}
-use Rattle.body.proofs.deficiencies.Statement.{statement}
-use Rattle.body.proofs.deficiencies.Tie as tie
+use Rattle.hour.specs.Check.{intervalOf, intervalsRule}
+use Rattle.hour.proofs.intervals.Statement.{statement}
+use Rattle.hour.proofs.intervals.Tie as tie
 
 abbrev Inv-loop : tie.InvT-loop
-Inv-loop start body at i₀ i =
-    (i ≤ 6) × (deficienciesRule start body at ≡ scan (deficiencyOf start body at) i (6 - i))
+Inv-loop start body from count i₀ i =
+    (i ≤ count) × (intervalsRule start body from count ≡ scan (intervalOf start body from) i (count - i))
 
 abbrev μ-loop : tie.MeasureT-loop
-μ-loop start body at i₀ i = 6 - i
+μ-loop start body from count i₀ i = count - i
 
-turn : (c : tie.After-range Inv-loop μ-loop) → let s = c .before .before .before .before .before .args in c .range .result ≡ deficiencyOf (s .start) (now (s .body)) (s .at) (c .before .before .before .loop .i)
-unfolding deficiencyOf
+turn : (c : tie.After-pair Inv-loop μ-loop) → let s = c .before .before .before .before .before .before .args in c .pair .result ≡ intervalOf (s .start) (now (s .body)) (s .from) (c .before .before .before .before .loop .i)
+unfolding intervalOf
 turn c = cc
 
 loop-holds : tie.Need-loop-holds Inv-loop μ-loop
-unfolding deficienciesRule
-loop-holds c = (omega arith, refl)
+unfolding intervalsRule
+loop-holds c = (omega arith, simp sub-zero)
 
 returns : tie.Need-returns Inv-loop μ-loop
 returns c = let e = turn (c .before .before) in search loop-stop
@@ -35,8 +34,8 @@ loop-again c = let e = turn (c .before .before) in (omega arith, search loop-nex
 returns-2 : tie.Need-returns-2 Inv-loop μ-loop
 returns-2 c = search loop-done
 
-pub deficiencies-spec : {M : Type 1} → statement M
-deficiencies-spec =
+pub intervals-spec : {M : Type 1} → statement M
+intervals-spec =
     tie.close
     (tie.spec
     Inv-loop
@@ -44,8 +43,12 @@ deficiencies-spec =
     loop-holds
     (λ c. search needs)
     (λ c. search needs)
+    (λ c κs. search needs)
     (λ c. search needs)
     (λ c κs. search needs)
+    (λ c. search needs)
+    (λ c. search needs)
+    (λ c. search needs)
     (λ c κs. search needs)
     (λ c κs. search needs)
     returns

@@ -1,29 +1,28 @@
 use borrow.Author.Needs.{needs}
 use denote.Ref.{now}
-use Prim.Native.Nat.{ℕ, _+_, _*_, _-_, _≤_}
-use mathlib.Core.Path.{_≡_}
+use Prim.Native.Nat.{_-_, _≤_}
+use mathlib.Core.Path.{_≡_, refl}
 use native.Mathlib.Omega.{arith}
-use native.Mathlib.Nat.{sub-zero}
 use Rattle.verdict.specs.First.{scan}
 use Rattle.verdict.proofs.First.{loop-next, loop-stop, loop-done}
-use Rattle.price.specs.Price.{pairOf, pairsRule}
-use Rattle.price.proofs.check_pairs.Statement.{statement}
-use Rattle.price.proofs.check_pairs.Tie as tie
+use Rattle.hour.specs.Check.{deficiencyOf, deficienciesRule}
+use Rattle.hour.proofs.deficiencies.Statement.{statement}
+use Rattle.hour.proofs.deficiencies.Tie as tie
 
 abbrev Inv-loop : tie.InvT-loop
-Inv-loop pairs n i₀ i =
-    (i ≤ n) × (pairsRule pairs n ≡ scan (pairOf pairs) i (n - i))
+Inv-loop start body at i₀ i =
+    (i ≤ 6) × (deficienciesRule start body at ≡ scan (deficiencyOf start body at) i (6 - i))
 
 abbrev μ-loop : tie.MeasureT-loop
-μ-loop pairs n i₀ i = n - i
+μ-loop start body at i₀ i = 6 - i
 
-turn : (c : tie.After-pair Inv-loop μ-loop) → let s = c .before .before .before .before .before .before .args in c .pair .result ≡ pairOf (now (s .pairs)) (c .before .before .before .before .loop .i)
-unfolding pairOf
+turn : (c : tie.After-range Inv-loop μ-loop) → let s = c .before .before .before .before .before .args in c .range .result ≡ deficiencyOf (s .start) (now (s .body)) (s .at) (c .before .before .before .loop .i)
+unfolding deficiencyOf
 turn c = cc
 
 loop-holds : tie.Need-loop-holds Inv-loop μ-loop
-unfolding pairsRule
-loop-holds c = (omega arith, simp sub-zero)
+unfolding deficienciesRule
+loop-holds c = (omega arith, refl)
 
 returns : tie.Need-returns Inv-loop μ-loop
 returns c = let e = turn (c .before .before) in search loop-stop
@@ -34,15 +33,14 @@ loop-again c = let e = turn (c .before .before) in (omega arith, search loop-nex
 returns-2 : tie.Need-returns-2 Inv-loop μ-loop
 returns-2 c = search loop-done
 
-pub check-pairs-spec : {M : Type 1} → statement M
-check-pairs-spec =
+pub deficiencies-spec : {M : Type 1} → statement M
+deficiencies-spec =
     tie.close
     (tie.spec
     Inv-loop
     μ-loop
     loop-holds
     (λ c. search needs)
-    (λ c κs. search needs)
     (λ c. search needs)
     (λ c. search needs)
     (λ c κs. search needs)

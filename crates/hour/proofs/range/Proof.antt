@@ -1,7 +1,6 @@
-use borrow.Author.Needs.{needs}
 use Rattle.verdict.proofs.Tests.{tests}
-use Rattle.body.proofs.range.Statement.{statement}
-use Rattle.body.proofs.range.Tie as tie
+use Rattle.hour.proofs.range.Statement.{statement}
+use Rattle.hour.proofs.range.Tie as tie
 
 pub range-spec : {M : Type 1} → statement M
 range-spec =

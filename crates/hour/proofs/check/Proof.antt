@@ -1,19 +1,13 @@
 use borrow.Author.Needs.{needs}
 use denote.Ref.{now}
-use Prim.Native.Nat.{ℕ, _+_, _*_, _/_, _≤_}
+use Prim.Native.Nat.{ℕ, _+_, _*_}
 use mathlib.Core.List.{List}
-use mathlib.Core.Path.{_≡_, refl, sym, ap, _∙_}
-use native.Mathlib.Omega.{arith}
-use lib.IntN.{natAbs}
-use lib.ListN.{length}
-use Rattle.words.specs.Word.{wordAt, signedOf}
-use Rattle.limits.specs.declared.Limits.{Limits}
-use Rattle.verdict.specs.Verdict.{numberOf}
+use mathlib.Core.Path.{_≡_, refl, sym, _∙_}
 use Rattle.verdict.specs.First.{_orElse_}
 use Rattle.verdict.proofs.First.{seq-next, seq-stop}
-use Rattle.body.specs.Check.{numbersRule, intervalsRule, demandsRule, hourRule}
-use Rattle.body.proofs.hour.Statement.{statement}
-use Rattle.body.proofs.hour.Tie as tie
+use Rattle.hour.specs.Check.{numbersRule, intervalsRule, demandsRule, hourRule}
+use Rattle.hour.proofs.check.Statement.{statement}
+use Rattle.hour.proofs.check.Tie as tie
 
 opened : (start : ℕ) (body : List ℕ) (load count at : ℕ) → hourRule start body load count at ≡ (numbersRule start body at orElse intervalsRule start body (at + 8) (12 * load) orElse demandsRule start body (at + 8 + 24 * load) count)
 unfolding hourRule
@@ -31,8 +25,8 @@ returns-2 c = let o = past-numbers (c .before .before .before) in search seq-sto
 returns-3 : tie.Need-returns-3
 returns-3 c = c .demands .ensures ∙ sym (seq-next _ _ _ _ _ (past-numbers (c .before .before .before .before)) (c .before .before .before .intervals .ensures) (c .before .before .number2 .ensures) (c .before .if2 .left))
 
-pub hour-spec : {M : Type 1} → statement M
-hour-spec =
+pub check-spec : {M : Type 1} → statement M
+check-spec =
     tie.close
     (tie.spec
     (λ c κs. search needs)

@@ -1,7 +1,7 @@
 use borrow.Author.Needs.{needs}
 use Rattle.verdict.proofs.Tests.{tests}
-use Rattle.body.proofs.demand.Statement.{statement}
-use Rattle.body.proofs.demand.Tie as tie
+use Rattle.hour.proofs.demand.Statement.{statement}
+use Rattle.hour.proofs.demand.Tie as tie
 
 pub demand-spec : {M : Type 1} → statement M
 demand-spec =

@@ -1,7 +1,7 @@
 use borrow.Author.Needs.{needs}
 use Rattle.verdict.proofs.Tests.{tests}
-use Rattle.body.proofs.pair.Statement.{statement}
-use Rattle.body.proofs.pair.Tie as tie
+use Rattle.hour.proofs.pair.Statement.{statement}
+use Rattle.hour.proofs.pair.Tie as tie
 
 pub pair-spec : {M : Type 1} → statement M
 pair-spec =

@@ -3,9 +3,13 @@ use Prim.Native.Nat.{ℕ, _+_, _≤_, _<_}
 use mathlib.Core.Path.{_≡_}
 use native.Mathlib.Omega.{arith}
 use native.Mathlib.Numerals.{add-one}
-use native.Mathlib.Nat.{suc-mul, mul-le-mul-right}
+use native.Mathlib.Nat.{add-zero, zero-mul, suc-mul, mul-le-mul-right}
 use Rattle.hour.specs.Layout.{hourWords}
 use Rattle.body.specs.Layout.{bodyWords, hourStart}
+
+pub first-hour : (points coordinators : ℕ) → hourStart points coordinators 0 ≡ 7 + coordinators
+unfolding hourStart
+first-hour points coordinators = rw (zero-mul (hourWords points coordinators)) (add-zero _)
 
 module _ (points coordinators h : ℕ) where
   pub hour-next : hourStart points coordinators (h + 1) ≡ hourStart points coordinators h + hourWords points coordinators

@@ -20,7 +20,7 @@ use Rattle.dayfile.specs.File.{areasOf, peakOf, startAt, bodyAt, cisoBefore}
 use Rattle.dayfile.specs.Check.{checkOf, checkWithin}
 use Rattle.dayfile.proofs.Facts.{file-length, file-head, file-entry, file-sound, file-one-ciso, body-length}
 use Rattle.acceptance.proofs.Acceptance.{first-broken, length-exactly}
-use Rattle.surcharge.specs.Surcharge.{priceMissing}
+use Rattle.amounts.specs.Amounts.{priceMissing}
 use Rattle.settlement.specs.Settlement.{neededTo, numbersNeeded, chargeable, hourRule, hoursRule, areaRule, areasRule, acceptedRule, settleWith}
 
 -- K of an area is 1, and up to 63 more where it is CISO

@@ -13,7 +13,7 @@ use Rattle.hour.specs.Layout.{runningDemand}
 use Rattle.body.specs.Layout.{kindOf, daysOf, coordinatorsOf, intervalsAt, demandsAt}
 use Rattle.dayfile.specs.File.{areasOf, peakOf, startAt, bodyAt}
 use Rattle.dayfile.specs.Check.{checkOf}
-use Rattle.surcharge.specs.Surcharge.{amountAt, priceMissing}
+use Rattle.amounts.specs.Amounts.{amountAt, priceMissing}
 use Rattle.statement.specs.Block.{areaNumbers, block}
 
 module _ (file : List ℕ) where

@@ -9,7 +9,7 @@ ghost use Rattle.hour.specs.Layout.{runningDemand};
 ghost use Rattle.body.specs.Layout.{hourAt};
 ghost use Rattle.body.specs.Sound.{Sound};
 ghost use Rattle.dayfile.specs.File.{areasOf, peakOf};
-ghost use Rattle.surcharge.specs.Surcharge.{dayOf};
+ghost use Rattle.amounts.specs.Amounts.{dayOf};
 ghost use Rattle.settlement.specs.SoundFile.{SoundFile};
 ghost use Rattle.settlement.specs.Settlement.{neededTo, statementTo, chargeable, hourRule, hoursRule, areasRule, fileDays, acceptedRule, afterWith, settleOf, after};
 
@@ -74,7 +74,7 @@ fn chargeable_hour(peak: u32, day: Day, body: &[u8], h: usize, at: usize) -> boo
     if 0 < total {
         return true;
     }
-    let amount = statement::amount_of(surcharge::hour_amounts(peak, day, body, h, at));
+    let amount = statement::amount_of(amounts::hour_amounts(peak, day, body, h, at));
     shares::shareable(amount.0, total)
 }
 
@@ -84,7 +84,7 @@ fn check_hour(peak: u32, day: Day, start: usize, body: &[u8], h: usize, at: usiz
     requires { ⌜ (day ≡ dayOf peak (day .days) (now body)) × ((day .days ≤ 30) × (start < 4294967296)) ⌝ }
     ensures { λ r. ⌜ r ≡ hourRule peak (day .days) start (now (body .entry)) h ⌝ }
 {
-    if surcharge::price_missing(peak, day, body, h, at) {
+    if amounts::price_missing(peak, day, body, h, at) {
         return Verdict::PriceWithoutQuantity {
             place: start + (at + 8),
         };
@@ -103,7 +103,7 @@ fn check_area(peak: u32, days: u32, start: usize, body: &[u8]) -> Verdict
     requires { ⌜ (Sound 32 (now body)) × ((days ≤ 30) × (start < 4294967296)) ⌝ }
     ensures { λ r. ⌜ r ≡ hoursRule peak days start (now (body .entry)) ⌝ }
 {
-    let day = surcharge::day_facts(peak, days, body);
+    let day = amounts::day_facts(peak, days, body);
     let load = words::word(body, 5) as usize;
     let count = words::word(body, 6) as usize;
     let mut at = 7 + count;

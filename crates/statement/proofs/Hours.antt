@@ -11,9 +11,9 @@ use borrow.Rule.Slice.PartMut.{putMid}
 use Rattle.exact.proofs.Lending.{lent-back}
 use Rattle.body.specs.Layout.{kindOf, hourAt, coordinatorsOf, demandsAt}
 use Rattle.body.specs.Sound.{Sound}
-use Rattle.surcharge.specs.declared.Amounts.{Amounts}
-use Rattle.surcharge.specs.Surcharge.{onPeakAmount, offPeakAmount, downwardAmount, amountAt, amountsOf}
-use Rattle.surcharge.proofs.AmountSizes.{on-small, off-small, down-small, amount-small}
+use Rattle.amounts.specs.declared.Amounts.{Amounts}
+use Rattle.amounts.specs.Amounts.{onPeakAmount, offPeakAmount, downwardAmount, amountAt, amountsOf}
+use Rattle.amounts.proofs.AmountSizes.{on-small, off-small, down-small, amount-small}
 use Rattle.statement.specs.Block.{hourNumbers, hourBlock, hoursBlock, chargesAt}
 use Rattle.statement.specs.Ranges.{AmountsRanged, DemandsRanged}
 use Rattle.statement.proofs.Charges.{charges-length}

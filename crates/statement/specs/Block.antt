@@ -8,7 +8,7 @@ use lib.IntN.{ℤ}
 use Rattle.words.specs.Word.{wordAt}
 use Rattle.body.specs.Layout.{kindOf, coordinatorsOf, demandsAt}
 use Rattle.shares.specs.Shares.{shares}
-use Rattle.surcharge.specs.Surcharge.{onPeakAmount, offPeakAmount, downwardAmount, amountAt}
+use Rattle.amounts.specs.Amounts.{onPeakAmount, offPeakAmount, downwardAmount, amountAt}
 
 -- how many numbers an hour has before its charges
 abbrev pub amountsShown : ℕ

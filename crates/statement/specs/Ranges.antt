@@ -6,7 +6,7 @@ use lib.IntN.{natAbs}
 use lib.ListN.{length}
 use Rattle.hour.specs.Layout.{runningDemand}
 use Rattle.body.specs.Layout.{kindOf, pointsOf, coordinatorsOf}
-use Rattle.surcharge.specs.declared.Amounts.{Amounts}
+use Rattle.amounts.specs.declared.Amounts.{Amounts}
 
 pub record AmountsRanged (amounts : Amounts) : Type 0 where
   pub on : natAbs (amounts .on .0) ≤ 10000000000

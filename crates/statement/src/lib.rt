@@ -1,5 +1,5 @@
 // Writes the statement of one area into a lent block: its hours, each its three amounts and its charges.
-use surcharge::Amounts;
+use amounts::Amounts;
 use surcharge::Day;
 use units::Cents;
 ghost use mathlib.Core.Path.{_≡_};
@@ -10,7 +10,7 @@ ghost use lib.ListN.{length, take, drop};
 ghost use Rattle.hour.specs.Layout.{runningDemand};
 ghost use Rattle.body.specs.Layout.{hourAt, kindOf, pointsOf, coordinatorsOf};
 ghost use Rattle.body.specs.Sound.{Sound};
-ghost use Rattle.surcharge.specs.Surcharge.{dayOf};
+ghost use Rattle.amounts.specs.Amounts.{dayOf};
 ghost use Rattle.statement.specs.Ranges.{AmountsRanged, DemandsRanged};
 ghost use Rattle.statement.specs.Block.{demandList, chargesFrom, hourBlock, block, hourNumbers, areaNumbers};
 
@@ -89,7 +89,7 @@ fn write_hour(peak: u32, day: Day, body: &[u8], h: usize, at: usize, block: &mut
     requires { ⌜ hourNumbers (coordinatorsOf (now body)) ≤ length (now block) ⌝ }
     ensures { λ _. ⌜ now (block .exit) ≡ hourBlock peak (day .days) (now (body .entry)) h ++ drop (hourNumbers (coordinatorsOf (now (body .entry)))) (now (block .entry)) ⌝ }
 {
-    let amounts = surcharge::hour_amounts(peak, day, body, h, at);
+    let amounts = amounts::hour_amounts(peak, day, body, h, at);
     let on = amounts.on;
     let off = amounts.off;
     let down = amounts.down;
@@ -104,7 +104,7 @@ pub fn write_area(peak: u32, days: u32, body: &[u8], statement: &mut [i64])
     requires { ⌜ areaNumbers (coordinatorsOf (now body)) ≤ length (now statement) ⌝ }
     ensures { λ _. ⌜ now (statement .exit) ≡ block peak days (now (body .entry)) ++ drop (areaNumbers (coordinatorsOf (now (body .entry)))) (now (statement .entry)) ⌝ }
 {
-    let day = surcharge::day_facts(peak, days, body);
+    let day = amounts::day_facts(peak, days, body);
     let load = words::word(body, 5) as usize;
     let count = words::word(body, 6) as usize;
     let mut at = 7 + count;

@@ -1,5 +1,2 @@
 pub mod Sizes
-pub mod Quantities
-pub mod Hours
-pub mod HourAmounts
-pub mod AmountSizes
+pub mod Unneeded

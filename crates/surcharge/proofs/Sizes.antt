@@ -1,18 +1,17 @@
 -- How large the numbers of an amount get, for numbers that the check accepts.
-use Prim.Native.Nat.{ℕ, _+_, _*_, _≤_, _<_, zero-le}
+use Prim.Native.Nat.{ℕ, _+_, _*_, _≤_, zero-le}
 use mathlib.Core.Bool.{Bool, true, false, cond}
 use native.Mathlib.Nat.{mul-le-mul}
 use native.Mathlib.Omega.{arith}
 use lib.Dec.{eqb, leb}
 use lib.IntN.{ℤ, pos, natAbs, _-ℤ_, _*ℤ_}
-use Rattle.exact.specs.Round.{roundDiv}
 use Rattle.exact.specs.Floor.{atLeastZero, atMostZero}
 use Rattle.exact.proofs.Magnitude.{abs-minus, abs-mul≤}
 use Rattle.exact.proofs.Floor.{abs-at-least, abs-at-most}
 use Rattle.exact.proofs.Round.{round-within}
 use Rattle.surcharge.specs.Surcharge.{quarters, surchargeOf, creditOf, onPeakOf, offPeakOf, downwardOf}
 
-pick : (m : ℕ) (t : Bool) (a b : ℤ) → natAbs a ≤ m → natAbs b ≤ m → natAbs (cond t a b) ≤ m
+pub pick : (m : ℕ) (t : Bool) (a b : ℤ) → natAbs a ≤ m → natAbs b ≤ m → natAbs (cond t a b) ≤ m
 pick m true a b h k = h
 pick m false a b h k = k
 

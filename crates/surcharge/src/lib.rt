@@ -1,19 +1,14 @@
-// The surcharge of an hour of an area: tiers, the day's facts, and the three amounts.
-use price::PriceAnswer;
+// The surcharge by its formulas: tiers, peak hours, S, the credit, and each amount, over plain numbers.
 use units::Cents;
 use units::CentsOver400000;
 use units::HubPrice;
 use units::MarketPrice;
 use units::Quantity;
 ghost use mathlib.Core.Path.{_≡_};
-ghost use Prim.Native.Nat.{_+_, _*_, _≤_, _<_, max};
+ghost use Prim.Native.Nat.{_≤_};
 ghost use lib.IntN.{natAbs};
-ghost use lib.ListN.{length};
-ghost use Rattle.words.specs.Word.{wordAt, signedOf};
-ghost use Rattle.body.specs.Layout.{hourAt};
-ghost use Rattle.body.specs.Sound.{Sound};
-ghost use Rattle.surcharge.specs.Surcharge.{tierOf, peakHour, quarters, surchargeOf, creditOf, onPeakOf, offPeakOf, downwardOf, needed, greaterPrice, upwardFrom, downwardFrom, hourOf, dayOf, amountsOf, dayTier, dayUpward, hubPrice, priceFrom, priceIf, priceMissing};
-ghost use Rattle.surcharge.specs.Ranges.{DayRanged, HourRanged, PairsRanged};
+ghost use Rattle.surcharge.specs.Surcharge.{tierOf, peakHour, quarters, surchargeOf, creditOf, onPeakOf, offPeakOf, downwardOf, needed, greaterPrice};
+ghost use Rattle.surcharge.specs.Ranges.{DayRanged};
 
 // The facts of an area's day: day tier, M, the greater hub price P, persistent days d.
 pub struct Day {
@@ -23,21 +18,8 @@ pub struct Day {
     pub days: u32,
 }
 
-// U and the tier of an hour.
-struct Hour {
-    upward: Quantity,
-    tier: u32,
-}
-
-// The three amounts of an hour.
-pub struct Amounts {
-    pub on: Cents,
-    pub off: Cents,
-    pub down: Cents,
-}
-
 // The tier of an hour; nothing is rounded.
-fn tier(upward: Quantity, requirement: Quantity) -> u32
+pub fn tier(upward: Quantity, requirement: Quantity) -> u32
     requires { ⌜ upward .0 ≤ 10000000 ⌝ }
     ensures { λ r. ⌜ r ≡ tierOf (upward .0) (requirement .0) ⌝ }
 {
@@ -58,7 +40,7 @@ fn tier(upward: Quantity, requirement: Quantity) -> u32
     3
 }
 
-fn peak_hour(peak: u32, h: usize) -> bool
+pub fn peak_hour(peak: u32, h: usize) -> bool
     ensures { λ r. ⌜ r ≡ peakHour peak h ⌝ }
 {
     if peak == 0 {
@@ -80,7 +62,7 @@ fn quarters_of(tier: u32) -> u32
     8
 }
 
-fn price_needed(flag: u32, peak: bool, day: u32, tier: u32) -> bool
+pub fn price_needed(flag: u32, peak: bool, day: u32, tier: u32) -> bool
     ensures { λ r. ⌜ r ≡ needed flag peak day tier ⌝ }
 {
     if flag != 1 {
@@ -95,7 +77,7 @@ fn price_needed(flag: u32, peak: bool, day: u32, tier: u32) -> bool
     tier == 0
 }
 
-fn downward(quantity: Quantity, mec: MarketPrice) -> Cents
+pub fn downward(quantity: Quantity, mec: MarketPrice) -> Cents
     ensures { λ r. ⌜ r .0 ≡ downwardOf (quantity .0) (mec .0) ⌝ }
 {
     if quantity.0 <= 10000 {
@@ -104,7 +86,7 @@ fn downward(quantity: Quantity, mec: MarketPrice) -> Cents
     quantity.at_market_price(mec).at_most_zero().rounded()
 }
 
-fn off_peak(upward: Quantity, tier: u32, price: MarketPrice) -> Cents
+pub fn off_peak(upward: Quantity, tier: u32, price: MarketPrice) -> Cents
     requires { ⌜ (upward .0 ≤ 10000000) × (natAbs (price .0) ≤ 20000000) ⌝ }
     ensures { λ r. ⌜ r .0 ≡ offPeakOf (upward .0) tier (price .0) ⌝ }
 {
@@ -140,7 +122,7 @@ fn credit(most: Quantity, tier: u32, price: MarketPrice) -> CentsOver400000
     CentsOver400000(0)
 }
 
-fn on_peak(day: Day, tier: u32, price: MarketPrice) -> Cents
+pub fn on_peak(day: Day, tier: u32, price: MarketPrice) -> Cents
     requires { ⌜ DayRanged day ⌝ }
     requires { ⌜ natAbs (price .0) ≤ 20000000 ⌝ }
     ensures { λ r. ⌜ r .0 ≡ onPeakOf (day .most .0) (day .hub .0) (day .tier) (day .days) tier (price .0) ⌝ }
@@ -154,197 +136,11 @@ fn on_peak(day: Day, tier: u32, price: MarketPrice) -> Cents
         .rounded()
 }
 
-// U of the hour that starts at word `at`.
-fn upward(body: &[u8], at: usize) -> Quantity
-    requires { ⌜ HourRanged (now body) at ⌝ }
-    ensures { λ r. ⌜ r .0 ≡ upwardFrom (now (body .entry)) at ⌝ }
-{
-    let energy = Quantity(words::word(body, at));
-    let regulation = Quantity(words::word(body, at + 1));
-    let spin = Quantity(words::word(body, at + 2));
-    let other = Quantity(words::word(body, at + 3));
-    energy.plus(regulation).plus(spin).plus(other)
-}
-
-// W of the hour that starts at word `at`.
-fn downward_quantity(body: &[u8], at: usize) -> Quantity
-    requires { ⌜ HourRanged (now body) at ⌝ }
-    ensures { λ r. ⌜ r .0 ≡ downwardFrom (now (body .entry)) at ⌝ }
-{
-    let energy = Quantity(words::word(body, at + 4));
-    energy.plus(Quantity(words::word(body, at + 5)))
-}
-
-// U and the tier of the hour that starts at word `at`, where it counts.
-fn hour_facts(counts: bool, body: &[u8], at: usize) -> Hour
-    requires { ⌜ HourRanged (now body) at ⌝ }
-    ensures { λ r. ⌜ r ≡ hourOf counts (now (body .entry)) at ⌝ }
-{
-    if !counts {
-        return Hour {
-            upward: Quantity(0),
-            tier: 0,
-        };
-    }
-    let upward = upward(body, at);
-    let tier = tier(upward, Quantity(words::word(body, at + 6)));
-    Hour { upward, tier }
-}
-
-fn larger(a: u32, b: u32) -> u32
-    ensures { λ r. ⌜ r ≡ max a b ⌝ }
-{
-    if a < b {
-        return b;
-    }
-    a
-}
-
-fn greater_price(a: HubPrice, b: HubPrice) -> HubPrice
+pub fn greater_price(a: HubPrice, b: HubPrice) -> HubPrice
     ensures { λ r. ⌜ r .0 ≡ greaterPrice (a .0) (b .0) ⌝ }
 {
     if a.0 < b.0 {
         return b;
     }
     a
-}
-
-// The highest U and the highest tier of the peak hours.
-fn highest_hour(peak: u32, body: &[u8]) -> Hour
-    requires { ⌜ Sound 32 (now body) ⌝ }
-    ensures { λ r. ⌜ (r .upward .0 ≡ dayUpward (now (body .entry)) peak) × (r .tier ≡ dayTier (now (body .entry)) peak) ⌝ }
-{
-    let load = words::word(body, 5) as usize;
-    let count = words::word(body, 6) as usize;
-    let mut most: u32 = 0;
-    let mut tier: u32 = 0;
-    let mut at = 7 + count;
-    let mut h: usize = 0;
-    while h < 24 {
-        let facts = hour_facts(peak_hour(peak, h), body, at);
-        let upward = facts.upward;
-        most = larger(most, upward.0);
-        tier = larger(tier, facts.tier);
-        at += 8 + 24 * load + count;
-        h += 1;
-    }
-    Hour {
-        upward: Quantity(most),
-        tier,
-    }
-}
-
-fn hub_price(body: &[u8]) -> HubPrice
-    requires { ⌜ 20 ≤ length (now body) ⌝ }
-    ensures { λ r. ⌜ r .0 ≡ hubPrice (now (body .entry)) ⌝ }
-{
-    let a = HubPrice(words::signed(words::word(body, 3)));
-    let b = HubPrice(words::signed(words::word(body, 4)));
-    greater_price(a, b)
-}
-
-// The facts of an area's day, with its persistent days as a given number.
-pub fn day_facts(peak: u32, days: u32, body: &[u8]) -> Day
-    requires { ⌜ Sound 32 (now body) ⌝ }
-    ensures { λ r. ⌜ r ≡ dayOf peak days (now (body .entry)) ⌝ }
-{
-    let highest = highest_hour(peak, body);
-    let most = highest.upward;
-    let tier = highest.tier;
-    let hub = hub_price(body);
-    Day {
-        tier,
-        most,
-        hub,
-        days,
-    }
-}
-
-// The price of an hour's interval pairs, which start at word `from`: that part of the body, uncopied.
-fn hour_price(body: &[u8], load: usize, from: usize) -> PriceAnswer
-    requires { ⌜ PairsRanged (now body) load from ⌝ }
-    ensures { λ r. ⌜ r ≡ priceFrom (now (body .entry)) from ⌝ }
-{
-    let start = 4 * from;
-    let end = start + 96 * load;
-    price::average_price(&body[start..end], 12 * load)
-}
-
-// That price where it is needed, and 0 where no amount asks for it.
-fn price_if(needed: bool, body: &[u8], load: usize, from: usize) -> MarketPrice
-    requires { ⌜ PairsRanged (now body) load from ⌝ }
-    ensures { λ r. ⌜ r .0 ≡ priceIf needed (now (body .entry)) from ⌝ }
-{
-    if !needed {
-        return MarketPrice(0);
-    }
-    MarketPrice(price::price_of(hour_price(body, load, from)))
-}
-
-fn down_amount(body: &[u8], at: usize) -> Cents
-    requires { ⌜ HourRanged (now body) at ⌝ }
-    ensures { λ r. ⌜ r .0 ≡ downwardOf (downwardFrom (now (body .entry)) at) (signedOf (wordAt (now (body .entry)) (at + 7))) ⌝ }
-{
-    let mec = MarketPrice(words::signed(words::word(body, at + 7)));
-    downward(downward_quantity(body, at), mec)
-}
-
-// The three amounts of hour h, which starts at word `at`. `day` has the facts of the area's day.
-pub fn hour_amounts(peak: u32, day: Day, body: &[u8], h: usize, at: usize) -> Amounts
-    requires { ⌜ (Sound 32 (now body)) × ((h < 24) × (at ≡ hourAt (now body) h)) ⌝ }
-    requires { ⌜ (day ≡ dayOf peak (day .days) (now body)) × (day .days ≤ 30) ⌝ }
-    ensures { λ r. ⌜ r ≡ amountsOf peak (day .days) (now (body .entry)) h ⌝ }
-{
-    let flag = words::word(body, 1);
-    if flag != 1 {
-        return Amounts {
-            on: Cents(0),
-            off: Cents(0),
-            down: Cents(0),
-        };
-    }
-    let down = down_amount(body, at);
-    let facts = hour_facts(true, body, at);
-    let upward = facts.upward;
-    let tier = facts.tier;
-    let in_peak = peak_hour(peak, h);
-    let load = words::word(body, 5) as usize;
-    let price = price_if(
-        price_needed(flag, in_peak, day.tier, tier),
-        body,
-        load,
-        at + 8,
-    );
-    if in_peak {
-        return Amounts {
-            on: on_peak(day, tier, price),
-            off: Cents(0),
-            down,
-        };
-    }
-    Amounts {
-        on: Cents(0),
-        off: off_peak(upward, tier, price),
-        down,
-    }
-}
-
-// Whether the price of hour h is needed and has no quantity under it.
-pub fn price_missing(peak: u32, day: Day, body: &[u8], h: usize, at: usize) -> bool
-    requires { ⌜ (Sound 32 (now body)) × ((h < 24) × (at ≡ hourAt (now body) h)) ⌝ }
-    requires { ⌜ day ≡ dayOf peak (day .days) (now body) ⌝ }
-    ensures { λ r. ⌜ r ≡ priceMissing (now (body .entry)) peak h ⌝ }
-{
-    let facts = hour_facts(true, body, at);
-    let needed = price_needed(
-        words::word(body, 1),
-        peak_hour(peak, h),
-        day.tier,
-        facts.tier,
-    );
-    if !needed {
-        return false;
-    }
-    let load = words::word(body, 5) as usize;
-    price::number(hour_price(body, load, at + 8)) == 11
 }

@@ -12,7 +12,7 @@ use Rattle.body.specs.Layout.{kindOf, daysOf, coordinatorsOf, demandsAt}
 use Rattle.dayfile.specs.File.{areasOf, peakOf, startAt, bodyAt}
 use Rattle.shares.specs.Shares.{sum}
 use Rattle.shares.proofs.AddsUp.{adds-up}
-use Rattle.surcharge.specs.Surcharge.{onPeakAmount, offPeakAmount, downwardAmount, amountAt}
+use Rattle.amounts.specs.Amounts.{onPeakAmount, offPeakAmount, downwardAmount, amountAt}
 use Rattle.statement.specs.Block.{demandList, chargesFrom, chargesAt}
 use Rattle.statement.proofs.Charges.{charges-one, charges-shared}
 use Rattle.statement.proofs.Demands.{demand-total}

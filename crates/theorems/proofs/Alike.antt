@@ -8,7 +8,7 @@ use native.Mathlib.Omega.{arith}
 use Rattle.words.specs.Word.{wordAt}
 use Rattle.hour.specs.Layout.{missing, runningDemand}
 use Rattle.body.specs.Layout.{pointsOf, coordinatorsOf, hourAt, intervalsAt, priceAt, quantityAt, demandsAt, demandAt}
-use Rattle.surcharge.specs.Surcharge.{amountAt}
+use Rattle.amounts.specs.Amounts.{amountAt}
 use Rattle.statement.specs.Block.{chargesAt, hourBlock, hoursBlock, block}
 use Rattle.settlement.specs.Settlement.{chargeable, hourRule, hoursRule}
 use Rattle.theorems.proofs.Demands.{charges-same}

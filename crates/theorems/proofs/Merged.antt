@@ -13,7 +13,7 @@ use Rattle.body.specs.Layout.{kindOf, daysOf, coordinatorsOf}
 use Rattle.dayfile.specs.File.{areasOf, peakOf, bodyAt}
 use Rattle.dayfile.specs.Check.{checkOf}
 use Rattle.shares.specs.Shares.{sum, mergedAt}
-use Rattle.surcharge.specs.Surcharge.{onPeakAmount, offPeakAmount, downwardAmount}
+use Rattle.amounts.specs.Amounts.{onPeakAmount, offPeakAmount, downwardAmount}
 use Rattle.statement.specs.Block.{block, hourBlock, chargesAt}
 use Rattle.settlement.specs.Settlement.{neededTo, settleOf}
 use Rattle.parts.specs.Bytes.{Below}

@@ -7,7 +7,7 @@ use Rattle.hour.specs.Layout.{runningDemand}
 use Rattle.body.specs.Layout.{kindOf, daysOf, coordinatorsOf, demandsAt}
 use Rattle.shares.specs.Shares.{total, sum, shares, mergedAt}
 use Rattle.shares.proofs.Merged.{merged, total-merged}
-use Rattle.surcharge.specs.Surcharge.{onPeakAmount, offPeakAmount, downwardAmount, amountAt}
+use Rattle.amounts.specs.Amounts.{onPeakAmount, offPeakAmount, downwardAmount, amountAt}
 use Rattle.statement.specs.Block.{chargesAt, hourBlock}
 use Rattle.statement.proofs.Demands.{demand-total}
 use Rattle.statement.proofs.Charges.{charges-shared}

@@ -14,7 +14,8 @@ use Rattle.body.specs.Layout.{kindOf, flagOf, pointsOf, hourAt, intervalsAt, qu
 use Rattle.price.specs.Price.{withInterval, quantityOf, priceOf, averageOf, answerOf}
 use Rattle.price.specs.declared.Average.{Average}
 use Rattle.price.proofs.MissingPrices.{missing-changes-nothing}
-use Rattle.surcharge.specs.Surcharge.{peakHour, highest, upwardFrom, downwardFrom, upwardAt, tierAt, dayTier, dayUpward, hubPrice, greaterPrice, priceFrom, priceAnswerAt, onPeakAmount, offPeakAmount, downwardAmount, amountAt, priceNeeded, priceMissing}
+use Rattle.surcharge.specs.Surcharge.{peakHour, greaterPrice}
+use Rattle.amounts.specs.Amounts.{highest, upwardFrom, downwardFrom, upwardAt, tierAt, dayTier, dayUpward, hubPrice, priceFrom, priceAnswerAt, onPeakAmount, offPeakAmount, downwardAmount, amountAt, priceNeeded, priceMissing}
 
 pub record SameAmounts (body other : List ℕ) : Type 0 where
   -- kind, EDAM flag, persistent days, hub prices, load points

@@ -14,7 +14,7 @@ use Rattle.hour.specs.Layout.{runningDemand}
 use Rattle.body.specs.Layout.{kindOf, daysOf, coordinatorsOf, demandsAt}
 use Rattle.dayfile.specs.File.{areasOf, peakOf, startAt, bodyAt}
 use Rattle.dayfile.specs.Check.{checkOf}
-use Rattle.surcharge.specs.Surcharge.{amountAt, priceMissing}
+use Rattle.amounts.specs.Amounts.{amountAt, priceMissing}
 use Rattle.shares.proofs.Accepted.{either, zero-is}
 use Rattle.settlement.specs.Settlement.{numbersNeeded, chargeable, hourRule, hoursRule, areaRule, areasRule, acceptedRule, settleWith, settleOf, fileDays}
 use Rattle.theorems.proofs.Shown.{days-are}

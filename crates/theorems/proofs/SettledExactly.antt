@@ -10,7 +10,7 @@ use Rattle.verdict.proofs.First.{kept}
 use Rattle.body.specs.Layout.{daysOf}
 use Rattle.dayfile.specs.File.{areasOf, peakOf, startAt, bodyAt}
 use Rattle.dayfile.specs.Check.{checkOf}
-use Rattle.surcharge.specs.Surcharge.{priceMissing}
+use Rattle.amounts.specs.Amounts.{priceMissing}
 use Rattle.settlement.specs.Settlement.{numbersNeeded, chargeable, hourRule, hoursRule, areaRule, areasRule, acceptedRule, settleWith, fileDays, settleOf}
 use Rattle.settlement.proofs.Room.{check-accepts, room-enough}
 use Rattle.theorems.proofs.FirstIndex.{passes, all-accept}

@@ -19,7 +19,7 @@ use Rattle.verdict.proofs.First.{scan-each}
 use Rattle.body.specs.Layout.{daysOf}
 use Rattle.dayfile.specs.File.{areasOf, peakOf, bodyAt}
 use Rattle.dayfile.specs.Check.{checkOf}
-use Rattle.surcharge.specs.Surcharge.{priceMissing}
+use Rattle.amounts.specs.Amounts.{priceMissing}
 use Rattle.settlement.specs.Settlement.{chargeable, hourRule, numbersNeeded, statementTo, fileDays, hoursRule, areaRule, areasRule, acceptedRule, settleWith, settleOf}
 use Rattle.settlement.proofs.Accepted.{settled, refused}
 use Rattle.theorems.specs.Refused.{Refuses, hourVerdict, FirstHour, CheckRefuses, RoomShort, HourRefuses, RefusedWith}

@@ -11,7 +11,7 @@ use Rattle.verdict.specs.Verdict.{numberOf}
 use Rattle.body.specs.Layout.{kindOf, daysOf, coordinatorsOf, demandsAt}
 use Rattle.body.specs.Sound.{Sound}
 use Rattle.dayfile.specs.File.{areasOf, peakOf, bodyAt}
-use Rattle.surcharge.specs.Surcharge.{onPeakAmount, offPeakAmount, downwardAmount, amountAt}
+use Rattle.amounts.specs.Amounts.{onPeakAmount, offPeakAmount, downwardAmount, amountAt}
 use Rattle.statement.specs.Block.{hourNumbers, chargesAt, hourBlock, hoursBlock, block}
 use Rattle.statement.proofs.Charges.{charges-length}
 use Rattle.statement.proofs.Demands.{demands-ranged}

@@ -11,7 +11,7 @@ use Rattle.verdict.specs.Verdict.{numberOf}
 use Rattle.body.specs.Layout.{kindOf, daysOf, coordinatorsOf, demandsAt}
 use Rattle.dayfile.specs.File.{areasOf, peakOf, bodyAt}
 use Rattle.shares.proofs.Turned.{turned}
-use Rattle.surcharge.specs.Surcharge.{amountAt}
+use Rattle.amounts.specs.Amounts.{amountAt}
 use Rattle.statement.specs.Block.{demandList, chargesFrom, chargesAt}
 use Rattle.statement.proofs.Charges.{charges-one, charges-shared}
 use Rattle.settlement.specs.Settlement.{settleOf}

@@ -12,7 +12,7 @@ use Rattle.body.specs.Layout.{kindOf, daysOf, coordinatorsOf, demandsAt, demand
 use Rattle.dayfile.specs.File.{areasOf, peakOf, bodyAt}
 use Rattle.shares.specs.Shares.{shares, apart}
 use Rattle.shares.proofs.WithinACent.{within-a-cent}
-use Rattle.surcharge.specs.Surcharge.{amountAt}
+use Rattle.amounts.specs.Amounts.{amountAt}
 use Rattle.statement.specs.Block.{demandList}
 use Rattle.statement.proofs.Charges.{charges-shared}
 use Rattle.statement.proofs.Demands.{demand-total, demand-length}

@@ -3,14 +3,13 @@ use denote.Ref.{now}
 use Prim.Native.Nat.{_+_, _*_, _-_, _≤_}
 use mathlib.Core.Path.{_≡_, refl, sym}
 use native.Mathlib.Omega.{arith}
-use native.Mathlib.Nat.{zero-mul, add-zero}
 use lib.ListN.{length}
 use Rattle.verdict.specs.First.{scan}
 use Rattle.verdict.proofs.First.{loop-next, loop-stop, loop-done}
 use Rattle.hour.specs.Layout.{hourWords}
 use Rattle.body.specs.Layout.{hourStart}
 use Rattle.body.specs.Check.{hourOf, hoursRule}
-use Rattle.body.proofs.HourPlaces.{hour-next, hour-room}
+use Rattle.body.proofs.HourPlaces.{first-hour, hour-next, hour-room}
 use Rattle.body.proofs.hours.Statement.{statement}
 use Rattle.body.proofs.hours.Tie as tie
 
@@ -29,8 +28,8 @@ unfolding hourOf
 turn c = cc
 
 loop-holds : tie.Need-loop-holds Inv-loop μ-loop
-unfolding hoursRule hourStart
-loop-holds c = (omega arith, rw zero-mul (sym (add-zero _)), refl)
+unfolding hoursRule
+loop-holds c = (omega arith, sym (first-hour _ _), refl)
 
 check-requires : tie.Need-check-requires Inv-loop μ-loop
 check-requires c κs = omega (arith, room c)

@@ -13,8 +13,8 @@ use Rattle.exact.proofs.Machine.{within}
 use Rattle.hour.specs.Layout.{runningDemand}
 use Rattle.body.specs.Layout.{hourAt, pointsOf, coordinatorsOf, demandsAt, kindOf}
 use Rattle.body.proofs.Facts.{hour-demand}
-use Rattle.surcharge.specs.Surcharge.{amountAt}
-use Rattle.surcharge.proofs.AmountSizes.{amount-small}
+use Rattle.amounts.specs.Amounts.{amountAt}
+use Rattle.amounts.proofs.AmountSizes.{amount-small}
 use Rattle.statement.specs.Ranges.{DemandsRanged}
 use Rattle.statement.proofs.Demands.{demands-ranged}
 use Rattle.statement.proofs.Hours.{on-is, off-is, down-is, amounts-ranged}

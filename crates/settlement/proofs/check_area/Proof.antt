@@ -1,17 +1,16 @@
 use borrow.Author.Needs.{needs}
 use denote.Ref.{now}
-use Prim.Native.Nat.{ℕ, _+_, _*_, _-_, _≤_, _<_}
-use mathlib.Core.Path.{_≡_, refl, sym, ap, _∙_}
-use native.Mathlib.Nat.{zero-mul}
+use Prim.Native.Nat.{_+_, _*_, _-_, _≤_}
+use mathlib.Core.Path.{_≡_, refl, ap, _∙_}
 use native.Mathlib.Omega.{arith}
 use lib.ListN.{length}
 use Rattle.verdict.specs.First.{scan}
 use Rattle.verdict.proofs.First.{loop-next, loop-stop, loop-done}
 use Rattle.hour.specs.Layout.{hourWords}
-use Rattle.body.specs.Layout.{hourAt, hourStart, pointsOf, coordinatorsOf}
-use Rattle.body.proofs.HourPlaces.{hour-next}
+use Rattle.body.specs.Layout.{hourAt, pointsOf, coordinatorsOf}
+use Rattle.body.proofs.HourPlaces.{first-hour, hour-next}
 use Rattle.body.proofs.Facts.{hour-inside}
-use Rattle.surcharge.specs.Surcharge.{dayOf}
+use Rattle.amounts.proofs.HourAmounts.{days-kept, day-of-its-days}
 use Rattle.settlement.specs.Settlement.{hourRule, hoursRule}
 use Rattle.settlement.proofs.check_area.Statement.{statement}
 use Rattle.settlement.proofs.check_area.Tie as tie
@@ -26,15 +25,8 @@ abbrev μ-loop : tie.MeasureT-loop
 inside : (c : tie.In-loop Inv-loop μ-loop) → let b = now (c .before .before .before .before .before .before .args .body) in 4 * (c .before .loop .at + hourWords (pointsOf b) (coordinatorsOf b)) ≤ length b
 inside c = let s = c .before .before .before .before .before .before in rw (c .before .loop .inv .1) (hour-inside 32 (now (s .args .body)) (s .pre .0) (c .before .loop .h) (omega arith))
 
-days-are : (c : tie.After-day-facts Inv-loop μ-loop) → c .day-facts .result .days ≡ c .before .before .args .days
-unfolding dayOf
-days-are c = ap (λ d. d .days) (c .day-facts .ensures)
-
-day-is : (c : tie.After-day-facts Inv-loop μ-loop) → let s = c .before .before .args in c .day-facts .result ≡ dayOf (s .peak) (c .day-facts .result .days) (now (s .body))
-day-is c = let s = c .before .before .args in c .day-facts .ensures ∙ ap (λ d. dayOf (s .peak) d (now (s .body))) (sym (days-are c))
-
 turn : (c : tie.After-check-hour Inv-loop μ-loop) → let s = c .before .before .before .before .before .before .before .args in c .check-hour .result ≡ hourRule (s .peak) (s .days) (s .start) (now (s .body)) (c .before .before .loop .h)
-turn c = let s = c .before .before .before .before .before .before .before .args in c .check-hour .ensures ∙ ap (λ d. hourRule (s .peak) d (s .start) (now (s .body)) (c .before .before .loop .h)) (days-are (c .before .before .before .before .before))
+turn c = let s = c .before .before .before .before .before .before .before .args in c .check-hour .ensures ∙ ap (λ d. hourRule (s .peak) d (s .start) (now (s .body)) (c .before .before .loop .h)) (days-kept _ _ _ _ (c .before .before .before .before .before .day-facts .ensures))
 
 word-requires : tie.Need-word-requires Inv-loop μ-loop
 word-requires c κs = let z = c .before .before .pre .0 .size in omega arith
@@ -43,17 +35,17 @@ word-requires-2 : tie.Need-word-requires-2 Inv-loop μ-loop
 word-requires-2 c κs = let z = c .before .before .before .pre .0 .size in omega arith
 
 loop-holds : tie.Need-loop-holds Inv-loop μ-loop
-unfolding hourStart hoursRule
+unfolding hoursRule
 loop-holds c =
     let b = now (c .before .before .before .before .args .body) in
-    (omega arith, omega (arith, c .word2 .ensures, zero-mul (hourWords (pointsOf b) (coordinatorsOf b))), refl)
+    (omega arith, omega (arith, c .word2 .ensures, first-hour (pointsOf b) (coordinatorsOf b)), refl)
 
 check-hour-requires : tie.Need-check-hour-requires Inv-loop μ-loop
 check-hour-requires c κs =
     let s = c .before .before .before .before .before .before in
     let l = c .before .loop in
-    let d = c .before .before .before .before in
-    ((s .pre .0, (c .loop-test .taken, l .inv .1)), (day-is d, (rw (days-are d) (s .pre .1 .0), s .pre .1 .1)))
+    let d = c .before .before .before .before .day-facts .ensures in
+    ((s .pre .0, (c .loop-test .taken, l .inv .1)), (day-of-its-days _ _ _ _ d, (rw (days-kept _ _ _ _ d) (s .pre .1 .0), s .pre .1 .1)))
 
 returns : tie.Need-returns Inv-loop μ-loop
 returns c = let e = turn (c .before .before) in search loop-stop

@@ -6,7 +6,7 @@ use mathlib.Core.Path.{_≡_, refl, sym, ap, _∙_}
 use native.Mathlib.Omega.{arith}
 use borrow.Author.Tests.{not-true, not-false}
 use Rattle.verdict.specs.declared.Verdict.the-variants.{AmountWithoutDemand}
-use Rattle.surcharge.specs.Surcharge.{priceMissing}
+use Rattle.amounts.specs.Amounts.{priceMissing}
 use Rattle.statement.specs.Ranges.{DemandsRanged}
 use Rattle.statement.proofs.Demands.{demands-ranged}
 use Rattle.settlement.specs.Settlement.{chargeable, hourRule}

@@ -1,8 +1,8 @@
 use borrow.Author.Needs.{needs}
 use denote.Ref.{now}
-use Prim.Native.Nat.{ℕ, suc, _+_, _*_, _-_, _≤_, _<_}
+use Prim.Native.Nat.{ℕ, _+_, _*_, _-_, _≤_, _<_}
 use mathlib.Core.List.{List, _++_}
-use mathlib.Core.Path.{_≡_, refl, sym, ap, ap₂, _∙_}
+use mathlib.Core.Path.{_≡_, refl, sym, ap, _∙_}
 use native.Mathlib.Nat.{suc-mul, zero-mul, mul-le-mul-right}
 use native.Mathlib.Numerals.{add-one}
 use native.Mathlib.Omega.{arith}
@@ -11,10 +11,10 @@ use lib.ListN.{length, take, drop, length-take, length-drop}
 use borrow.Rule.Slice.PartMut.{putMid}
 use Rattle.exact.proofs.Lending.{lent-back}
 use Rattle.hour.specs.Layout.{hourWords}
-use Rattle.body.specs.Layout.{hourAt, hourStart, pointsOf, coordinatorsOf}
-use Rattle.body.proofs.HourPlaces.{hour-next}
+use Rattle.body.specs.Layout.{hourAt, pointsOf, coordinatorsOf}
+use Rattle.body.proofs.HourPlaces.{first-hour, hour-next}
 use Rattle.body.proofs.Facts.{hour-inside}
-use Rattle.surcharge.specs.Surcharge.{dayOf}
+use Rattle.amounts.proofs.HourAmounts.{days-kept, day-of-its-days}
 use Rattle.statement.specs.Block.{hourNumbers, hourBlock, hoursBlock}
 use Rattle.statement.proofs.Hours.{hours-length, hours-more}
 use Rattle.statement.proofs.write_area.Statement.{statement}
@@ -42,13 +42,6 @@ room c =
 inside : (c : tie.In-loop Inv-loop μ-loop) → let b = now (c .before .before .before .before .before .before .args .body) in 4 * (c .before .loop .at + hourWords (pointsOf b) (coordinatorsOf b)) ≤ length b
 inside c = let s = c .before .before .before .before .before .before in rw (c .before .loop .inv .1) (hour-inside 32 (now (s .args .body)) (s .pre .0 .0) (c .before .loop .h) (omega arith))
 
-days-are : (c : tie.After-day-facts Inv-loop μ-loop) → c .day-facts .result .days ≡ c .before .before .args .days
-unfolding dayOf
-days-are c = ap (λ d. d .days) (c .day-facts .ensures)
-
-day-is : (c : tie.After-day-facts Inv-loop μ-loop) → let s = c .before .before .args in c .day-facts .result ≡ dayOf (s .peak) (c .day-facts .result .days) (now (s .body))
-day-is c = let s = c .before .before .args in c .day-facts .ensures ∙ ap (λ d. dayOf (s .peak) d (now (s .body))) (sym (days-are c))
-
 -- one hour more
 step : (peak days : ℕ) (body : List ℕ) (h to : ℕ) (before xs part : List ℤ) (k : ℕ) → length (hoursBlock peak days body h) ≡ to
     → xs ≡ hoursBlock peak days body h ++ drop to before → part ≡ hourBlock peak days body h ++ drop k (take (length xs - to) (drop to xs))
@@ -64,10 +57,10 @@ word-requires-2 : tie.Need-word-requires-2 Inv-loop μ-loop
 word-requires-2 c κs = let z = c .before .before .before .pre .0 .0 .size in omega arith
 
 loop-holds : tie.Need-loop-holds Inv-loop μ-loop
-unfolding hourStart hoursBlock
+unfolding hoursBlock
 loop-holds c =
     let b = now (c .before .before .before .before .args .body) in
-    (omega arith, omega (arith, c .word2 .ensures, zero-mul (hourWords (pointsOf b) (coordinatorsOf b))), sym (zero-mul (hourNumbers (coordinatorsOf b))), refl, refl)
+    (omega arith, omega (arith, c .word2 .ensures, first-hour (pointsOf b) (coordinatorsOf b)), sym (zero-mul (hourNumbers (coordinatorsOf b))), refl, refl)
 
 mul-write-hour : tie.Need-mul-write-hour Inv-loop μ-loop
 mul-write-hour c = let r = room c in omega arith
@@ -82,8 +75,8 @@ write-hour-requires : tie.Need-write-hour-requires Inv-loop μ-loop
 write-hour-requires c κs =
     let s = c .before .before .before .before .before .before .before in
     let l = c .before .before .loop in
-    let d = c .before .before .before .before .before in
-    ((s .pre .0 .0, (omega arith, l .inv .1)), ((day-is d, rw (days-are d) (s .pre .0 .1)), simp (length-take, length-drop) (omega (arith, room (c .before)))))
+    let d = c .before .before .before .before .before .day-facts .ensures in
+    ((s .pre .0 .0, (omega arith, l .inv .1)), ((day-of-its-days _ _ _ _ d, rw (days-kept _ _ _ _ d) (s .pre .0 .1)), simp (length-take, length-drop) (omega (arith, room (c .before)))))
 
 add-at-2 : tie.Need-add-at-2 Inv-loop μ-loop
 add-at-2 c = let r = inside (c .before .before .before) in omega arith
@@ -110,7 +103,7 @@ loop-again c =
       omega arith,
       omega (arith, hour-next (pointsOf b) (coordinatorsOf b) (l .h), c .before .before .before .before .before .before .word .ensures, k, l .inv .1),
       omega (arith, l .inv .2, k, rw (← add-one (l .h)) at (suc-mul (l .h) (hourNumbers (coordinatorsOf b)))),
-      rw k (step (a .peak) (a .days) b (l .h) (l .to) (now (a .statement)) (l .statement) _ (hourNumbers (coordinatorsOf b)) (hours-length (a .peak) (a .days) b (s .pre .0 .0) (l .h) (l .inv .0) ∙ sym (l .inv .2)) (l .inv .3) (rw (days-are (c .before .before .before .before .before .before .before)) at (c .before .write-hour .ensures))),
+      rw k (step (a .peak) (a .days) b (l .h) (l .to) (now (a .statement)) (l .statement) _ (hourNumbers (coordinatorsOf b)) (hours-length (a .peak) (a .days) b (s .pre .0 .0) (l .h) (l .inv .0) ∙ sym (l .inv .2)) (l .inv .3) (rw (days-kept _ _ _ _ (c .before .before .before .before .before .before .before .day-facts .ensures)) at (c .before .write-hour .ensures))),
       omega arith,
     )
 

@@ -11,8 +11,8 @@ use mir.Val.{toZ, ofZ}
 use mir.ValLaws.{toZ-ofZ}
 use Rattle.exact.proofs.Machine.{within}
 use Rattle.body.specs.Layout.{hourAt, coordinatorsOf}
-use Rattle.surcharge.specs.Surcharge.{onPeakAmount, offPeakAmount, downwardAmount, amountAt}
-use Rattle.surcharge.proofs.AmountSizes.{amount-small}
+use Rattle.amounts.specs.Amounts.{onPeakAmount, offPeakAmount, downwardAmount, amountAt}
+use Rattle.amounts.proofs.AmountSizes.{amount-small}
 use Rattle.statement.specs.Block.{hourBlock, chargesAt}
 use Rattle.statement.specs.Ranges.{AmountsRanged, DemandsRanged}
 use Rattle.statement.proofs.Demands.{demands-ranged}

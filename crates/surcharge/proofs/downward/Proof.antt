@@ -1,7 +1,6 @@
 use borrow.Author.Needs.{needs}
-use mathlib.Core.Path.{_≡_, ap, _∙_}
+use mathlib.Core.Path.{ap, _∙_}
 use borrow.Author.Tests.{le-leb, lt-leb}
-use lib.IntN.{pos, _*ℤ_}
 use Rattle.exact.specs.Round.{roundDiv}
 use Rattle.exact.specs.Floor.{atMostZero}
 use Rattle.surcharge.specs.Surcharge.{downwardOf}

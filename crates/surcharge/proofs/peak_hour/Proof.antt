@@ -1,4 +1,3 @@
-use borrow.Author.Needs.{needs}
 use Rattle.verdict.proofs.Tests.{tests}
 use Rattle.surcharge.proofs.peak_hour.Statement.{statement}
 use Rattle.surcharge.proofs.peak_hour.Tie as tie

@@ -1,4 +1,3 @@
-use borrow.Author.Needs.{needs}
 use Rattle.verdict.proofs.Tests.{tests}
 use Rattle.surcharge.proofs.quarters_of.Statement.{statement}
 use Rattle.surcharge.proofs.quarters_of.Tie as tie

@@ -1,0 +1,4 @@
+pub mod Quantities
+pub mod Hours
+pub mod HourAmounts
+pub mod AmountSizes

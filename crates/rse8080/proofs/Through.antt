@@ -12,7 +12,7 @@ use Rattle.verdict.specs.declared.Verdict.{Verdict}
 use Rattle.verdict.specs.Verdict.{numberOf, placeOf}
 use Rattle.dayfile.specs.File.{areasOf}
 use Rattle.settlement.specs.SoundFile.{SoundFile}
-use Rattle.settlement.specs.Settlement.{numbersNeeded, statementTo, fileDays, settleOf, after}
+use Rattle.settlement.specs.Settlement.{mostNumbers, numbersNeeded, statementTo, fileDays, settleOf, after}
 use Rattle.settlement.proofs.Accepted.{sound-file, settled}
 use Rattle.settlement.proofs.Areas.{statement-length}
 use Rattle.settlement.proofs.Places.{settle-place}
@@ -20,8 +20,8 @@ use Rattle.settlement.proofs.Room.{check-accepts, room-enough, room-cut}
 use Rattle.rse8080.specs.Call.{encoded, verdictOf, bytesAfter}
 
 pub record Lent (file bytes : List ℕ) (numbers back : List ℤ) (room : ℕ) (answer : Verdict) : Type 0 where
-  pub long : length numbers ≡ 2280
-  pub cut : room ≡ min (length bytes / 8) 2280
+  pub long : length numbers ≡ mostNumbers
+  pub cut : room ≡ min (length bytes / 8) mostNumbers
   pub answered : answer ≡ settleOf file (length (take room numbers))
   pub came : back ≡ after answer file (take room numbers)
 

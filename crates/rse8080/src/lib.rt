@@ -5,6 +5,7 @@ ghost use mathlib.Core.List.{_++_};
 ghost use Prim.Native.Nat.{_+_, _*_, _≤_, _<_, min};
 ghost use lib.ListN.{length, drop};
 ghost use Rattle.verdict.specs.Verdict.{placeOf};
+ghost use Rattle.settlement.specs.Settlement.{mostNumbers};
 ghost use Rattle.rse8080.specs.Call.{bitsOf, bytesOf, encoded, verdictOf, coded, bytesAfter};
 
 fn bits(z: i64) -> u64
@@ -60,13 +61,13 @@ fn smaller(a: usize, b: usize) -> usize
     b
 }
 
-// No statement needs more than 2,280 numbers, so a room of 2,280 serves every file.
+// Settles into numbers, which are room for the longest statement, and writes them as bytes.
 fn settle_through(file: &[u8], numbers: &mut [i64], statement: &mut [u8]) -> u64
-    requires { ⌜ length (now numbers) ≡ 2280 ⌝ }
+    requires { ⌜ length (now numbers) ≡ mostNumbers ⌝ }
     ensures { λ r. ⌜ r ≡ coded (verdictOf (now (file .entry)) (now (statement .entry))) ⌝ }
     ensures { λ _. ⌜ now (statement .exit) ≡ bytesAfter (verdictOf (now (file .entry)) (now (statement .entry))) (now (file .entry)) (now (statement .entry)) ⌝ }
 {
-    let room = smaller(statement.len() / 8, 2280);
+    let room = smaller(statement.len() / 8, numbers.len());
     let answer = settlement::settle(file, &mut numbers[..room]);
     if verdict::number(answer) != 0 {
         return code(answer);

@@ -21,7 +21,7 @@ use Rattle.dayfile.specs.Check.{checkOf, checkWithin}
 use Rattle.dayfile.proofs.Facts.{file-length, file-head, file-entry, file-sound, file-one-ciso, body-length}
 use Rattle.acceptance.proofs.Acceptance.{first-broken, length-exactly}
 use Rattle.amounts.specs.Amounts.{priceMissing}
-use Rattle.settlement.specs.Settlement.{neededTo, numbersNeeded, chargeable, hourRule, hoursRule, areaRule, areasRule, acceptedRule, settleWith}
+use Rattle.settlement.specs.Settlement.{mostNumbers, neededTo, numbersNeeded, chargeable, hourRule, hoursRule, areaRule, areasRule, acceptedRule, settleWith}
 
 -- K of an area is 1, and up to 63 more where it is CISO
 pub few-coordinators : (kind count : ℕ) → kind ≤ 1 → count ≤ mostCoordinators kind → count ≤ 1 + 63 * kind
@@ -46,7 +46,7 @@ module _ (file : List ℕ) (accepted : numberOf (checkOf file) ≡ 0) where
   one-ciso zero h = omega arith
   one-ciso (suc k) h = file-one-ciso editionOne file within k h
 
-  pub needed-most : numbersNeeded file ≤ 2280
+  pub needed-most : numbersNeeded file ≤ mostNumbers
   unfolding editionOne
   needed-most = omega (arith, needed-by (areasOf file) (omega arith), one-ciso (areasOf file) (omega arith), file-head editionOne file within .few)
 

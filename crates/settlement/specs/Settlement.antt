@@ -16,6 +16,10 @@ use Rattle.dayfile.specs.Check.{checkOf}
 use Rattle.amounts.specs.Amounts.{amountAt, priceMissing}
 use Rattle.statement.specs.Block.{areaNumbers, block}
 
+-- the numbers of the longest statement: eight areas, one of them CISO with 64 coordinators
+abbrev pub mostNumbers : ℕ
+mostNumbers = 2280
+
 module _ (file : List ℕ) where
   -- the numbers of the first n areas
   unfoldable pub neededTo : ℕ → ℕ

@@ -18,9 +18,10 @@ lent : (c : tie.After-settle)
     → let s = c .before .before .before .before .before .args in
     Lent (now (s .file)) (now (s .statement)) (now (s .numbers)) (c .settle .last .1 .0) (c .before .before .smaller .result) (c .settle .result)
 lent c =
+    let long = c .before .before .before .before .before .pre in
     record {
-      long = c .before .before .before .before .before .pre;
-      cut = c .before .before .smaller .ensures;
+      long = long;
+      cut = rw (← long) (c .before .before .smaller .ensures);
       answered = c .settle .ensures .0;
       came = c .settle .ensures .1;
     }

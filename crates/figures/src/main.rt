@@ -1,7 +1,7 @@
 // Runs the figures of document 01 through the public calls, and prints a line for each: what is asked, then what the call
 // gives. Amounts are cents, prices ten-thousandths of a dollar. A day here is one area of kind 0 with one coordinator: an
 // hour is 33 words, the first hour's begin at word 15, and four numbers of the statement.
-use shares::Row;
+use sharing::Row;
 use verdict::Verdict;
 
 // Words of an hour.
@@ -272,7 +272,7 @@ fn shared(label: &[u8], amount: i64, demands: [u32; 3], n: usize) {
         demand: demands[2],
     };
     let mut charges = [0i64; 3];
-    let answer = shares::share_array(amount, rows, n, &mut charges);
+    let answer = sharing::share_array(amount, rows, n, &mut charges);
     show::text(label);
     show_verdict(answer);
     show::numbers(&charges[..n]);

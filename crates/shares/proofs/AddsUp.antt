@@ -4,19 +4,10 @@ use mathlib.Core.Logic.{_⊎_, ⊎-elim}
 use mathlib.Core.List.{List, [], _∷_}
 use Prim.Native.Nat.{ℕ, _+_, _<_}
 use native.Mathlib.Nat.{add-zero, zero-add, add-assoc}
-use native.Mathlib.Omega.{arith}
-use mathlib.Core.Bool.{_&&_}
-use lib.Dec.{leb}
 use lib.IntN.{ℤ, pos, _-ℤ_, +ℤ-invr, +ℤ-idr, zero-*ℤ}
-use lib.ListN.{length}
-use Rattle.verdict.specs.Verdict.{numberOf}
-use Rattle.verdict.proofs.First.{kept}
 use Rattle.exact.proofs.Difference.{two-steps}
 use Rattle.exact.proofs.Round.{round-exact, round-zero}
 use Rattle.shares.specs.Shares.{total, upTo, sharesFrom, shares, sum}
-use Rattle.shares.specs.Rows.{coordinatorsOf, demandsOf, shareOf}
-use Rattle.shares.specs.declared.Row.{Row}
-use Rattle.shares.proofs.Accepted.{columns-accepted}
 use Rattle.shares.proofs.Sharing.{up-to-zero}
 
 pub sum-from : (amount : ℤ) (t c : ℕ) (ds : List ℕ) → sum (sharesFrom amount t c ds) ≡ upTo amount t (c + total ds) -ℤ upTo amount t c
@@ -35,9 +26,3 @@ adds-up amount demands some =
     sum-from amount (total demands) 0 demands
     ∙ rw (zero-add (total demands), up-to-zero amount (total demands), +ℤ-idr (upTo amount (total demands) (total demands)))
     (⊎-elim (λ e. nothing-whole amount (total demands) e) (λ h. round-exact amount (total demands) h) some)
-
--- so they do whenever the sharing call accepts
-pub accepted-adds-up : (amount : ℤ) (rows : List Row) (room : ℕ) → numberOf (shareOf amount rows room) ≡ 0 → sum (shares amount (demandsOf rows)) ≡ amount
-accepted-adds-up amount rows room z =
-    let counted = kept (leb 1 (length rows) && leb (length rows) 64) _ _ (λ q. omega arith) z in
-    adds-up amount (demandsOf rows) (columns-accepted amount (coordinatorsOf rows) (demandsOf rows) room (counted .1) .demand-some)

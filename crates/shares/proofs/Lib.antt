@@ -1,7 +1,6 @@
 pub mod Totals
-pub mod Accepted
+pub mod SomeDemand
 pub mod Sharing
-pub mod Columns
 pub mod AddsUp
 pub mod WithinACent
 pub mod Turned

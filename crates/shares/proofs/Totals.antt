@@ -9,7 +9,6 @@ use lib.ListN.{length, getD, take, drop}
 use lib.Seq.{take-suc}
 use Rattle.exact.proofs.Filling.{drop-next}
 use Rattle.shares.specs.Shares.{total}
-use Rattle.shares.specs.Rows.{demandBefore}
 
 pub total-append : (xs ys : List ℕ) → total (xs ++ ys) ≡ total xs + total ys
 unfolding total
@@ -22,6 +21,7 @@ module _ (demands : List ℕ) (i : ℕ) (h : i < length demands) where
   unfolding total
   total-drop = ap total (drop-next demands i 0 h)
 
-  pub before-next : demandBefore demands (i + 1) ≡ demandBefore demands i + getD demands i 0
-  unfolding demandBefore total
-  before-next = rw (add-one i, take-suc demands i 0 h, total-append (take i demands) (getD demands i 0 ∷ []), add-zero (getD demands i 0))
+  -- the total of one demand more
+  pub total-next : total (take (i + 1) demands) ≡ total (take i demands) + getD demands i 0
+  unfolding total
+  total-next = rw (add-one i, take-suc demands i 0 h, total-append (take i demands) (getD demands i 0 ∷ []), add-zero (getD demands i 0))

@@ -6,8 +6,8 @@ use mathlib.Core.Logic.{_⊎_, inl, inr, ⊎-elim}
 use mathlib.Core.Path.{_≡_}
 use native.Mathlib.Omega.{arith}
 use lib.Dec.{eqb, leb}
-use lib.IntN.{pos, natAbs}
-use borrow.Author.Tests.{eqb-true, eqb-false, ltb-true, not-true}
+use lib.IntN.{pos}
+use borrow.Author.Tests.{eqb-false, not-true}
 use Rattle.verdict.specs.Verdict.{numberOf}
 use Rattle.verdict.proofs.First.{kept, or-second, scan-each}
 use Rattle.hour.specs.Layout.{runningDemand}
@@ -15,7 +15,7 @@ use Rattle.body.specs.Layout.{kindOf, daysOf, coordinatorsOf, demandsAt}
 use Rattle.dayfile.specs.File.{areasOf, peakOf, startAt, bodyAt}
 use Rattle.dayfile.specs.Check.{checkOf}
 use Rattle.amounts.specs.Amounts.{amountAt, priceMissing}
-use Rattle.shares.proofs.Accepted.{either, zero-is}
+use Rattle.shares.proofs.SomeDemand.{either, shareable-when}
 use Rattle.settlement.specs.Settlement.{numbersNeeded, chargeable, hourRule, hoursRule, areaRule, areasRule, acceptedRule, settleWith, settleOf, fileDays}
 use Rattle.theorems.proofs.Shown.{days-are}
 
@@ -36,5 +36,5 @@ charged peak days start body h z =
     let test = kept (chargeable body peak days h) _ _ (λ q. omega arith) (priced .1) .0 in
     ⊎-elim
     (λ t. inl (eqb-false _ _ (not-true _ t)))
-    (λ t. inr (⊎-elim (λ s. inl (zero-is _ (eqb-true _ _ s))) (λ s. inr (ltb-true _ _ s)) (either (eqb (natAbs (amountAt body peak days h)) 0) _ t)))
+    (λ t. inr (shareable-when (amountAt body peak days h) _ t))
     (either (not (eqb (kindOf body) 1)) _ test)

@@ -1,7 +1,7 @@
 // Runs the library's public calls on a stream of cases from standard input, and prints a line for each.
 // A case is four words (the call, x, y, the number of payload bytes) and its payload; the stream ends where no whole case follows.
 use libc::STDIN_FILENO;
-use shares::Row;
+use sharing::Row;
 use verdict::Verdict;
 ghost use mathlib.Core.Path.{_≡_};
 ghost use Prim.Native.Nat.{_+_, _*_, _≤_, _<_, _^_};
@@ -129,7 +129,7 @@ fn share_into(amount: i64, rows: [Row; 70], n: usize, charges: &mut [i64])
     requires { ⌜ (n ≤ 70) × (length (now charges) ≤ 128) ⌝ }
 {
     fill_lent(charges);
-    show_verdict(shares::share_array(amount, rows, n, charges));
+    show_verdict(sharing::share_array(amount, rows, n, charges));
     show::numbers(charges);
 }
 

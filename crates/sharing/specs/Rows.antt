@@ -1,0 +1,70 @@
+-- The sharing call of document 01, over a table of rows, each a coordinator number and a demand: what it refuses, and the charges afterwards.
+use Prim.Native.Nat.{ℕ, zero, suc}
+use mathlib.Core.Bool.{cond, _&&_, _||_}
+use mathlib.Core.List.{List, _++_, map}
+use lib.Dec.{eqb, leb, ltb}
+use lib.IntN.{ℤ, natAbs}
+use lib.ListN.{length, getD, take, drop}
+use Rattle.verdict.specs.declared.Verdict.{Verdict}
+use Rattle.verdict.specs.declared.Verdict.the-variants.{Accepted, BadLength, AmountWithoutDemand, RoomTooShort, AmountBeyondRange}
+use Rattle.verdict.specs.Verdict.{numberOf}
+use Rattle.verdict.specs.First.{rule_else_then_, _orElse_, scan}
+use Rattle.hour.specs.Check.{demandRule}
+use Rattle.body.specs.Check.{coordinatorRule}
+use Rattle.sharing.specs.declared.Row.{Row}
+use Rattle.shares.specs.Shares.{total, shares}
+
+abbrev pub coordinatorsOf : List Row → List ℕ
+coordinatorsOf = map (λ (row : Row). row .coordinator)
+
+abbrev pub demandsOf : List Row → List ℕ
+demandsOf = map (λ (row : Row). row .demand)
+
+-- ---- "rows in order (8, 9, 10, place the row from 0)"
+
+-- a row behind coordinator `before` and running demand `running`
+abbrev pub rowRule : (place before running coordinator demand : ℕ) → Verdict
+rowRule place before running coordinator demand = coordinatorRule place before coordinator orElse demandRule place running demand
+
+-- the coordinator before row i; 0 before the first
+unfoldable pub coordinatorBefore : List ℕ → ℕ → ℕ
+coordinatorBefore coordinators zero = 0
+coordinatorBefore coordinators (suc i) = getD coordinators i 0
+
+-- the running demand before row i
+unfoldable pub demandBefore : List ℕ → ℕ → ℕ
+demandBefore demands i = total (take i demands)
+
+unfoldable pub rowOf : List ℕ → List ℕ → ℕ → Verdict
+rowOf coordinators demands i = rowRule i (coordinatorBefore coordinators i) (demandBefore demands i) (getD coordinators i 0) (getD demands i 0)
+
+unfoldable pub rowsRule : List ℕ → List ℕ → Verdict
+rowsRule coordinators demands = scan (rowOf coordinators demands) 0 (length demands)
+
+-- ---- the call
+
+-- "1 unless 1 to 64 rows", and then the rest
+abbrev pub countRule : ℕ → Verdict → Verdict
+countRule count rest = rule leb 1 count && leb count 64 else BadLength then rest
+
+-- "13 for fewer charges than rows, 12 (place 0; A not 0 and T = 0)", with t the total
+abbrev pub chargesRule : (amount : ℤ) (t count room : ℕ) → Verdict
+chargesRule amount t count room =
+    rule leb count room else RoomTooShort count then
+    rule eqb (natAbs amount) 0 || ltb 0 t else AmountWithoutDemand 0 then
+    Accepted
+
+-- "15, rows in order", and then those
+unfoldable pub columnsRule : (amount : ℤ) (coordinators demands : List ℕ) (room : ℕ) → Verdict
+columnsRule amount coordinators demands room =
+    rule leb (natAbs amount) 10000000000 else AmountBeyondRange then
+    rowsRule coordinators demands orElse chargesRule amount (total demands) (length demands) room
+
+-- an amount over these rows, into `room` charges
+abbrev pub shareOf : ℤ → List Row → ℕ → Verdict
+shareOf amount rows room = countRule (length rows) (columnsRule amount (coordinatorsOf rows) (demandsOf rows) room)
+
+-- "charges past the rows stay"; a refusal writes nothing
+abbrev pub chargesAfter : Verdict → ℤ → List ℕ → List ℤ → List ℤ
+chargesAfter verdict amount demands charges =
+    cond (eqb (numberOf verdict) 0) (shares amount demands ++ drop (length demands) charges) charges

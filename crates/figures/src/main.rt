@@ -1,6 +1,7 @@
 // Runs the figures of document 01 through the public calls, and prints a line for each: what is asked, then what the call
 // gives. Amounts are cents, prices ten-thousandths of a dollar. A day here is one area of kind 0 with one coordinator: an
-// hour is 33 words, the first hour's begin at word 15, and four numbers of the statement.
+// hour is 33 words, the first hour's begin at word 15, and four numbers of the statement. Days are handed on by value, in
+// room for the longest body: lent, each write would cost the check of this program four times as much.
 use sharing::Row;
 use verdict::Verdict;
 
@@ -27,69 +28,75 @@ fn minus(n: u32) -> u32 {
 }
 
 // A word past the end is not written.
-fn put(bytes: &mut [u8], word: usize, value: u32) {
-    if bytes.len() / 4 <= word {
-        return;
+fn put(day: [u8; 11832], word: usize, value: u32) -> [u8; 11832] {
+    if 2958 <= word {
+        return day;
     }
     let at = 4 * word;
+    let mut bytes = day;
     bytes[at] = (value % 256) as u8;
     bytes[at + 1] = (value / 256 % 256) as u8;
     bytes[at + 2] = (value / 65536 % 256) as u8;
     bytes[at + 3] = (value / 16777216) as u8;
+    bytes
 }
 
 // Hours are counted from 0.
-fn set(day: &mut [u8], hour: u8, word: u8, value: u32) {
-    put(day, 15 + 33 * (hour as usize) + (word as usize), value);
+fn set(day: [u8; 11832], hour: u8, word: u8, value: u32) -> [u8; 11832] {
+    put(day, 15 + 33 * (hour as usize) + (word as usize), value)
 }
 
-fn put_head(day: &mut [u8], peak: u32, words: u32) {
-    put(day, 0, 1);
-    put(day, 1, 20260504);
-    put(day, 2, 1);
-    put(day, 3, peak);
-    put(day, 4, 7);
-    put(day, 5, 7);
-    put(day, 6, words);
+fn put_head(day: [u8; 11832], peak: u32, words: u32) -> [u8; 11832] {
+    let day = put(day, 0, 1);
+    let day = put(day, 1, 20260504);
+    let day = put(day, 2, 1);
+    let day = put(day, 3, peak);
+    let day = put(day, 4, 7);
+    let day = put(day, 5, 7);
+    put(day, 6, words)
 }
 
-fn put_area(day: &mut [u8], days: u32, hub_a: u32, hub_b: u32) {
-    put(day, 8, 1);
-    put(day, 9, days);
-    put(day, 10, hub_a);
-    put(day, 11, hub_b);
-    put(day, 12, 1);
-    put(day, 13, 1);
-    put(day, 14, 12);
+fn put_area(day: [u8; 11832], days: u32, hub_a: u32, hub_b: u32) -> [u8; 11832] {
+    let day = put(day, 8, 1);
+    let day = put(day, 9, days);
+    let day = put(day, 10, hub_a);
+    let day = put(day, 11, hub_b);
+    let day = put(day, 12, 1);
+    let day = put(day, 13, 1);
+    put(day, 14, 12)
 }
 
-fn put_missing(day: &mut [u8], hour: u8) {
+fn put_missing(before: [u8; 11832], hour: u8) -> [u8; 11832] {
+    let mut day = before;
     let mut interval: usize = 0;
     while interval < 12 {
-        put(day, 24 + 33 * (hour as usize) + 2 * interval, MISSING);
+        let next = put(day, 24 + 33 * (hour as usize) + 2 * interval, MISSING);
+        day = next;
         interval += 1;
     }
+    day
 }
 
 // A day without deficiencies, every price missing.
-fn put_day(day: &mut [u8], peak: u32, days: u32, hub_a: u32, hub_b: u32) {
-    put_head(day, peak, 800);
-    put_area(day, days, hub_a, hub_b);
+fn quiet_day(peak: u32, days: u32, hub_a: u32, hub_b: u32) -> [u8; 11832] {
+    let mut day = put_area(put_head([0u8; 11832], peak, 800), days, hub_a, hub_b);
     let mut hour: u8 = 0;
     while hour < 24 {
-        put_missing(day, hour);
+        let next = put_missing(day, hour);
+        day = next;
         hour += 1;
     }
+    day
 }
 
-fn put_price(day: &mut [u8], hour: u8, price: u32) {
-    set(day, hour, QUANTITY, 1000);
-    set(day, hour, PRICE, price);
+fn put_price(day: [u8; 11832], hour: u8, price: u32) -> [u8; 11832] {
+    let day = set(day, hour, QUANTITY, 1000);
+    set(day, hour, PRICE, price)
 }
 
-fn put_deficiency(day: &mut [u8], hour: u8, upward: u32, requirement: u32) {
-    set(day, hour, UPWARD, upward);
-    set(day, hour, REQUIREMENT, requirement);
+fn put_deficiency(day: [u8; 11832], hour: u8, upward: u32, requirement: u32) -> [u8; 11832] {
+    let day = set(day, hour, UPWARD, upward);
+    set(day, hour, REQUIREMENT, requirement)
 }
 
 fn show_verdict(answer: Verdict) {
@@ -108,9 +115,9 @@ fn show_hour(statement: &[i64], hour: u8) {
 }
 
 // The number and place of the settled day, and the hour's on-peak, off-peak and downward amount and charge.
-fn settled(label: &[u8], day: &[u8], hour: u8) {
+fn settled(label: &[u8], day: [u8; 11832], hour: u8) {
     let mut statement = [0i64; 96];
-    let answer = settlement::settle(day, &mut statement);
+    let answer = settlement::settle(&day[0..3228], &mut statement);
     show::text(label);
     show_verdict(answer);
     show_hour(&statement, hour);
@@ -118,11 +125,10 @@ fn settled(label: &[u8], day: &[u8], hour: u8) {
 
 // An off-peak hour at $1, where a tier of 1 costs nothing, 2 costs 1.25 and 3 costs 2 dollars a MWh.
 fn tier(label: &[u8], upward: u32, requirement: u32) {
-    let mut day = [0u8; 3228];
-    put_day(&mut day, 0, 0, 0, 0);
-    put_deficiency(&mut day, 0, upward, requirement);
-    put_price(&mut day, 0, 10000);
-    settled(label, &day, 0);
+    let day = quiet_day(0, 0, 0, 0);
+    let day = put_deficiency(day, 0, upward, requirement);
+    let day = put_price(day, 0, 10000);
+    settled(label, day, 0);
 }
 
 fn tiers() {
@@ -139,70 +145,66 @@ fn tiers() {
 }
 
 // Hubs at 80.00 and 95.50, d 3, and M = 120 MW in the hour ending 8, of tier 2. The hour ending 9 is of tier 1.
-fn put_failed_day(day: &mut [u8]) {
-    put_day(day, PEAK_HOURS, 3, 8000, 9550);
-    put_deficiency(day, 7, 120000, 1000000);
-    put_deficiency(day, 8, 5000, 1000000);
+fn failed_day() -> [u8; 11832] {
+    let quiet = quiet_day(PEAK_HOURS, 3, 8000, 9550);
+    let mut day = put_deficiency(put_deficiency(quiet, 7, 120000, 1000000), 8, 5000, 1000000);
     let mut hour: u8 = 6;
     while hour < 22 {
-        put_price(day, hour, 600000);
+        let next = put_price(day, hour, 600000);
+        day = next;
         hour += 1;
     }
+    day
 }
 
 fn passed(label: &[u8], price: u32) {
-    let mut day = [0u8; 3228];
-    put_failed_day(&mut day);
-    set(&mut day, 9, PRICE, price);
-    settled(label, &day, 9);
+    let day = failed_day();
+    let day = set(day, 9, PRICE, price);
+    settled(label, day, 9);
 }
 
 fn on_peak() {
-    let mut day = [0u8; 3228];
-    put_failed_day(&mut day);
+    let day = failed_day();
     settled(
         b"T6 failed hour (with d added to the multiplier it would be 1466880):",
-        &day,
+        day,
         7,
     );
-    settled(b"T6 hour of tier 1:", &day, 8);
+    settled(b"T6 hour of tier 1:", day, 8);
     passed(b"T7 passed hour at 60:", 600000);
     passed(b"T7 passed hour at 130:", 1300000);
     passed(b"T7 passed hour at -5:", minus(50000));
 }
 
 fn day_of_tier_1() {
-    let mut day = [0u8; 3228];
-    put_failed_day(&mut day);
-    set(&mut day, 7, UPWARD, 5000);
-    set(&mut day, 9, PRICE, minus(50000));
+    let day = failed_day();
+    let day = set(day, 7, UPWARD, 5000);
+    let day = set(day, 9, PRICE, minus(50000));
     settled(
         b"Day of tier 1, passed hour at -5 (no credit out of nothing):",
-        &day,
+        day,
         9,
     );
 }
 
 // A day that fails in every hour: hours ending 7 to 22 are on-peak.
 fn peak_hours() {
-    let mut day = [0u8; 3228];
-    put_failed_day(&mut day);
-    put_deficiency(&mut day, 5, 120000, 1000000);
-    put_price(&mut day, 5, 10000);
-    put_deficiency(&mut day, 22, 120000, 1000000);
-    put_price(&mut day, 22, 10000);
-    settled(b"Hour ending 6:", &day, 5);
-    settled(b"Hour ending 7:", &day, 6);
-    settled(b"Hour ending 22:", &day, 21);
-    settled(b"Hour ending 23:", &day, 22);
+    let day = failed_day();
+    let day = put_deficiency(day, 5, 120000, 1000000);
+    let day = put_price(day, 5, 10000);
+    let day = put_deficiency(day, 22, 120000, 1000000);
+    let day = put_price(day, 22, 10000);
+    settled(b"Hour ending 6:", day, 5);
+    settled(b"Hour ending 7:", day, 6);
+    settled(b"Hour ending 22:", day, 21);
+    settled(b"Hour ending 23:", day, 22);
 }
 
 fn downward(label: &[u8], deficiency: u32, mec: u32) {
-    let mut day = [0u8; 3228];
-    put_day(&mut day, 0, 0, 0, 0);
-    set(&mut day, 0, DOWNWARD, deficiency);
-    set(&mut day, 0, MEC, mec);
-    settled(label, &day, 0);
+    let day = quiet_day(0, 0, 0, 0);
+    let day = set(day, 0, DOWNWARD, deficiency);
+    let day = set(day, 0, MEC, mec);
+    settled(label, day, 0);
 }
 
 fn downwards() {
@@ -216,24 +218,23 @@ fn downwards() {
     downward(b"T9 W 12.500 at MEC 40:", 12500, 400000);
 }
 
-fn put_last_ten(pairs: &mut [u8], quantity: u32, price: u32) {
+fn put_last_ten(before: [u8; 11832], quantity: u32, price: u32) -> [u8; 11832] {
+    let mut pairs = before;
     let mut interval: usize = 2;
     while interval < 12 {
-        put(pairs, 2 * interval, quantity);
-        put(pairs, 2 * interval + 1, price);
+        let next = put(put(pairs, 2 * interval, quantity), 2 * interval + 1, price);
+        pairs = next;
         interval += 1;
     }
+    pairs
 }
 
 // 100 MWh at 30 and 300 at 50, and ten more intervals of the given quantity and price.
 fn averaged(label: &[u8], quantity: u32, price: u32) {
-    let mut pairs = [0u8; 96];
-    put(&mut pairs, 0, 100000);
-    put(&mut pairs, 1, 300000);
-    put(&mut pairs, 2, 300000);
-    put(&mut pairs, 3, 500000);
-    put_last_ten(&mut pairs, quantity, price);
-    let answer = price::load_weighted(&pairs);
+    let first = put(put([0u8; 11832], 0, 100000), 1, 300000);
+    let second = put(put(first, 2, 300000), 3, 500000);
+    let pairs = put_last_ten(second, quantity, price);
+    let answer = price::load_weighted(&pairs[0..96]);
     show::text(label);
     show::space();
     show::signed_word(price::price_of(answer));
@@ -290,35 +291,35 @@ fn sharing() {
 }
 
 fn case_p() {
-    let mut day = [0u8; 3228];
-    put_day(&mut day, PEAK_HOURS, 0, 0, 0);
-    put_deficiency(&mut day, 2, 40000, 60000);
-    put_price(&mut day, 2, 250000);
-    settled(b"Case P, 807 words, hour ending 3:", &day, 2);
+    let day = quiet_day(PEAK_HOURS, 0, 0, 0);
+    let day = put_deficiency(day, 2, 40000, 60000);
+    let day = put_price(day, 2, 250000);
+    settled(b"Case P, 807 words, hour ending 3:", day, 2);
     show::text(b"Area 7 of case P, in bytes: ");
-    show::unsigned(dayfile::body_of(&day, 7).len() as u64);
+    show::unsigned(dayfile::body_of(&day[0..3228], 7).len() as u64);
     show::text(b"; area 8: ");
-    show::unsigned(dayfile::body_of(&day, 8).len() as u64);
+    show::unsigned(dayfile::body_of(&day[0..3228], 8).len() as u64);
     show::end();
 }
 
-fn put_coordinators(day: &mut [u8]) {
+fn put_coordinators(before: [u8; 11832]) -> [u8; 11832] {
+    let mut day = before;
     let mut i: u8 = 0;
     while i < 64 {
-        put(day, 14 + (i as usize), 1 + (i as u32));
+        let next = put(day, 14 + (i as usize), 1 + (i as u32));
+        day = next;
         i += 1;
     }
+    day
 }
 
 // The longest body: two load points and 64 coordinators.
 fn longest_body(label: &[u8], words: u32) {
-    let mut day = [0u8; 11832];
-    put_head(&mut day, 0, words);
-    put_area(&mut day, 0, 0, 0);
-    put(&mut day, 7, 1);
-    put(&mut day, 12, 2);
-    put(&mut day, 13, 64);
-    put_coordinators(&mut day);
+    let day = put_area(put_head([0u8; 11832], 0, words), 0, 0, 0);
+    let day = put(day, 7, 1);
+    let day = put(day, 12, 2);
+    let day = put(day, 13, 64);
+    let day = put_coordinators(day);
     let answer = dayfile::check(&day);
     show::text(label);
     show_verdict(answer);

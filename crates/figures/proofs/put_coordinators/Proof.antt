@@ -1,13 +1,10 @@
 use borrow.Author.Needs.{needs}
 use Prim.Native.Nat.{_-_, _≤_}
-use mathlib.Core.Path.{_≡_}
-use lib.ListN.{length}
 use Rattle.figures.proofs.put_coordinators.Statement.{statement}
 use Rattle.figures.proofs.put_coordinators.Tie as tie
 
 abbrev Inv-loop : tie.InvT-loop
-Inv-loop day₀ i₀ day i =
-    (i ≤ 64) × (length day ≡ length day₀)
+Inv-loop day₀ i₀ day i = i ≤ 64
 
 abbrev μ-loop : tie.MeasureT-loop
 μ-loop day₀ i₀ day i = 64 - i
@@ -24,7 +21,6 @@ put-coordinators-spec =
     (λ c. search needs)
     (λ c. search needs)
     (λ c κs. search needs)
-    (λ c. search needs)
     (λ c. search needs)
     (λ c. search needs)
     (λ c. search needs)

@@ -1,16 +1,13 @@
 use borrow.Author.Needs.{needs}
 use Prim.Native.Nat.{_-_, _≤_}
-use mathlib.Core.Path.{_≡_}
-use lib.ListN.{length}
 use Rattle.figures.proofs.put_last_ten.Statement.{statement}
 use Rattle.figures.proofs.put_last_ten.Tie as tie
 
 abbrev Inv-loop : tie.InvT-loop
-Inv-loop pairs₀ quantity price interval₀ pairs interval =
-    (interval ≤ 12) × (length pairs ≡ length pairs₀)
+Inv-loop quantity price pairs₀ interval₀ pairs interval = interval ≤ 12
 
 abbrev μ-loop : tie.MeasureT-loop
-μ-loop pairs₀ quantity price interval₀ pairs interval = 12 - interval
+μ-loop quantity price pairs₀ interval₀ pairs interval = 12 - interval
 
 pub put-last-ten-spec : {M : Type 1} → statement M
 put-last-ten-spec =
@@ -24,7 +21,6 @@ put-last-ten-spec =
     (λ c. search needs)
     (λ c. search needs)
     (λ c κs. search needs)
-    (λ c. search needs)
     (λ c. search needs)
     (λ c. search needs)
     (λ c. search needs)

@@ -1,15 +1,13 @@
 use borrow.Author.Needs.{needs}
 use Prim.Native.Nat.{_-_, _≤_}
-use mathlib.Core.Path.{_≡_}
-use lib.ListN.{length}
 use Rattle.figures.proofs.put_missing.Statement.{statement}
 use Rattle.figures.proofs.put_missing.Tie as tie
 
 abbrev Inv-loop : tie.InvT-loop
-Inv-loop day₀ hour interval₀ day interval = (interval ≤ 12) × (length day ≡ length day₀)
+Inv-loop hour day₀ interval₀ day interval = interval ≤ 12
 
 abbrev μ-loop : tie.MeasureT-loop
-μ-loop day₀ hour interval₀ day interval = 12 - interval
+μ-loop hour day₀ interval₀ day interval = 12 - interval
 
 pub put-missing-spec : {M : Type 1} → statement M
 put-missing-spec =
@@ -23,7 +21,6 @@ put-missing-spec =
     (λ c. search needs)
     (λ c. search needs)
     (λ c κs. search needs)
-    (λ c. search needs)
     (λ c. search needs)
     (λ c. search needs)
     (λ c. search needs)

@@ -1,19 +1,16 @@
 use borrow.Author.Needs.{needs}
 use Prim.Native.Nat.{_-_, _≤_}
-use mathlib.Core.Path.{_≡_}
-use lib.ListN.{length}
-use Rattle.figures.proofs.put_failed_day.Statement.{statement}
-use Rattle.figures.proofs.put_failed_day.Tie as tie
+use Rattle.figures.proofs.failed_day.Statement.{statement}
+use Rattle.figures.proofs.failed_day.Tie as tie
 
 abbrev Inv-loop : tie.InvT-loop
-Inv-loop day₀ hour₀ day hour =
-    (hour ≤ 22) × (length day ≡ length day₀)
+Inv-loop day₀ hour₀ day hour = hour ≤ 22
 
 abbrev μ-loop : tie.MeasureT-loop
 μ-loop day₀ hour₀ day hour = 22 - hour
 
-pub put-failed-day-spec : {M : Type 1} → statement M
-put-failed-day-spec =
+pub failed-day-spec : {M : Type 1} → statement M
+failed-day-spec =
     tie.close
     (tie.spec
     Inv-loop
@@ -23,7 +20,6 @@ put-failed-day-spec =
     (λ c κs. search needs)
     (λ c. search needs)
     (λ c κs. search needs)
-    (λ c. search needs)
     (λ c. search needs)
     (λ c. search needs)
     (λ c. search needs)

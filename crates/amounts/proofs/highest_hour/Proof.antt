@@ -29,7 +29,7 @@ room c =
     rw (c .before .loop .inv .1) (hour-inside 32 (now (s .args .body)) (s .pre) (c .before .loop .h) (omega arith))
 
 facts-is : (c : tie.After-hour-facts Inv-loop μ-loop) → let s = c .before .before .before .before .before .before .before .args in let l = c .before .before .before .loop in c .hour-facts .result ≡ hourOf (peakHour (s .peak) (l .h)) (now (s .body)) (hourAt (now (s .body)) (l .h))
-facts-is c = cc
+facts-is c = c .hour-facts .ensures ∙ rw (c .before .peak-hour .ensures, c .before .before .before .loop .inv .1)
 
 upward-is : (c : tie.After-hour-facts Inv-loop μ-loop) → let s = c .before .before .before .before .before .before .before .args in let l = c .before .before .before .loop in c .hour-facts .result .upward .0 ≡ cond (peakHour (s .peak) (l .h)) (upwardAt (now (s .body)) (l .h)) 0
 upward-is c = ap (λ r. r .upward .0) (facts-is c) ∙ hour-upward (peakHour (c .before .before .before .before .before .before .before .args .peak) (c .before .before .before .loop .h)) (now (c .before .before .before .before .before .before .before .args .body)) _

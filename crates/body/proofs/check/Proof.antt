@@ -22,26 +22,26 @@ unfolding bodyRule
 opened start body limits ciso = refl
 
 past-front : (c : tie.Else1) → let s = c .before .before .before .before .args in let b = now (s .body) in bodyRule (s .start) b (s .limits) (s .ciso) ≡ (coordinatorsRule (s .start) b (wordAt b 6) orElse hoursRule (s .start) b (wordAt b 5) (wordAt b 6))
-past-front c = let s = c .before .before .before .before .args in let b = now (s .body) in let o = opened (s .start) b (s .limits) (s .ciso) in search seq-next
+past-front c = let s = c .before .before .before .before .args in seq-next _ _ _ _ _ (opened (s .start) (now (s .body)) (s .limits) (s .ciso)) (c .before .before .front .ensures) (c .before .number .ensures) (c .if1 .left)
 
 -- past the head the body has the size that L and K give
 sized : (c : tie.Else1) → let s = c .before .before .before .before .args in let b = now (s .body) in length b / 4 ≡ bodyWords (wordAt b 5) (wordAt b 6)
 sized c = front-size _ _ _ _ (ap numberOf (sym (c .before .before .front .ensures)) ∙ sym (c .before .number .ensures) ∙ c .if1 .left)
 
 coordinators-is : (c : tie.After-coordinators) → let s = c .before .before .before .before .before .before .before .args in let b = now (s .body) in c .coordinators .result ≡ coordinatorsRule (s .start) b (wordAt b 6)
-coordinators-is c = cc
+coordinators-is c = c .coordinators .ensures ∙ rw (c .before .word2 .ensures)
 
 hours-is : (c : tie.After-hours) → let s = c .before .before .before .before .before .before .before .before .before .before .args in let b = now (s .body) in c .hours .result ≡ hoursRule (s .start) b (wordAt b 5) (wordAt b 6)
-hours-is c = cc
+hours-is c = c .hours .ensures ∙ rw (c .before .before .before .before .word2 .ensures, c .before .before .before .before .before .word .ensures)
 
 returns : tie.Need-returns
-returns c = let s = c .before .before .before .before .args in let b = now (s .body) in let o = opened (s .start) b (s .limits) (s .ciso) in search seq-stop
+returns c = let s = c .before .before .before .before .args in seq-stop _ _ _ _ _ (opened (s .start) (now (s .body)) (s .limits) (s .ciso)) (c .before .before .front .ensures) (c .before .number .ensures) (c .if1 .taken)
 
 coordinators-requires : tie.Need-coordinators-requires
 coordinators-requires c κs = let z = sized (c .before .before) in omega arith
 
 returns-2 : tie.Need-returns-2
-returns-2 c = let o = past-front (c .before .before .before .before .before) in let e = coordinators-is (c .before .before) in search seq-stop
+returns-2 c = seq-stop _ _ _ _ _ (past-front (c .before .before .before .before .before)) (coordinators-is (c .before .before)) (c .before .number2 .ensures) (c .if2 .taken)
 
 hours-requires : tie.Need-hours-requires
 hours-requires c κs = let z = sized (c .before .before .before .before .before) in omega arith

@@ -22,18 +22,22 @@ abbrev μ-loop : tie.MeasureT-loop
 -- what `coordinator` answered is the rule's answer for coordinator i
 turn : (c : tie.After-coordinator Inv-loop μ-loop) → let s = c .before .before .before .before .before .args in c .coordinator .result ≡ coordinatorOf (s .start) (now (s .body)) (c .before .before .before .loop .i)
 unfolding coordinatorOf
-turn c = cc
+turn c = c .coordinator .ensures ∙ rw (c .before .before .before .loop .inv .1, c .before .word .ensures)
 
 loop-holds : tie.Need-loop-holds Inv-loop μ-loop
 unfolding coordinatorBefore coordinatorsRule
 loop-holds c = (omega arith, refl, simp sub-zero)
 
 returns : tie.Need-returns Inv-loop μ-loop
-returns c = let e = turn (c .before .before) in search loop-stop
+returns c =
+    let i = c .before .before .before .before in
+    loop-stop _ _ _ _ _ _ (i .before .loop .inv .2) (i .loop-test .taken) (turn (c .before .before)) (c .before .number .ensures) (c .if1 .taken)
 
 loop-again : tie.Need-loop-again Inv-loop μ-loop
 unfolding coordinatorBefore
-loop-again c = let e = turn (c .before .before) in (omega arith, rw add-one (cc), search loop-next)
+loop-again c =
+    let i = c .before .before .before .before in
+    (omega arith, rw add-one (c .before .before .before .word .ensures), loop-next _ _ _ _ _ _ (i .before .loop .inv .2) (i .loop-test .taken) (turn (c .before .before)) (c .before .number .ensures) (c .if1 .left))
 
 returns-2 : tie.Need-returns-2 Inv-loop μ-loop
 returns-2 c = search loop-done

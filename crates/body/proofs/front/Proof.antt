@@ -20,10 +20,10 @@ unfolding frontRule
 opened start body points ciso = refl
 
 count-is : (c : tie.After-count) → let s = c .before .before .before .before .before .before .before .before .before .args in let b = now (s .body) in c .count .result ≡ countRule (s .start) (length b / 4) (mostCoordinators (wordAt b 0)) (wordAt b 5) (wordAt b 6)
-count-is c = cc
+count-is c = c .count .ensures ∙ rw (c .before .word3 .ensures, c .before .before .word2 .ensures, c .before .before .before .most-coordinators .ensures, c .before .before .before .before .word .ensures)
 
 returns : tie.Need-returns
-returns c = let s = c .before .before .before .before .args in let b = now (s .body) in let o = opened (s .start) b (s .points) (s .ciso) in search seq-stop
+returns c = let s = c .before .before .before .before .args in seq-stop _ _ _ _ _ (opened (s .start) (now (s .body)) (s .points) (s .ciso)) (c .before .before .head .ensures) (c .before .number .ensures) (c .if1 .taken)
 
 returns-2 : tie.Need-returns-2
 returns-2 c = let s = c .before .before .before .before .before .before .before .before .before .args in let b = now (s .body) in count-is c ∙ sym (seq-next _ _ _ _ _ (opened (s .start) b (s .points) (s .ciso)) (c .before .before .before .before .before .before .before .head .ensures) (c .before .before .before .before .before .before .number .ensures) (c .before .before .before .before .before .if1 .left))

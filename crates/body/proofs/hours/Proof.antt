@@ -1,7 +1,7 @@
 use borrow.Author.Needs.{needs}
 use denote.Ref.{now}
 use Prim.Native.Nat.{_+_, _*_, _-_, _≤_}
-use mathlib.Core.Path.{_≡_, refl, sym}
+use mathlib.Core.Path.{_≡_, refl, sym, _∙_}
 use native.Mathlib.Omega.{arith}
 use lib.ListN.{length}
 use Rattle.verdict.specs.First.{scan}
@@ -25,7 +25,7 @@ room c = let s = c .before .before .before .args in omega (arith, hour-room (s .
 
 turn : (c : tie.After-check Inv-loop μ-loop) → let s = c .before .before .before .before .args in c .check .result ≡ hourOf (s .start) (now (s .body)) (s .load) (s .count) (c .before .before .loop .h)
 unfolding hourOf
-turn c = cc
+turn c = c .check .ensures ∙ rw (c .before .before .loop .inv .1)
 
 loop-holds : tie.Need-loop-holds Inv-loop μ-loop
 unfolding hoursRule
@@ -35,7 +35,9 @@ check-requires : tie.Need-check-requires Inv-loop μ-loop
 check-requires c κs = omega (arith, room c)
 
 returns : tie.Need-returns Inv-loop μ-loop
-returns c = let e = turn (c .before .before) in search loop-stop
+returns c =
+    let i = c .before .before .before in
+    loop-stop _ _ _ _ _ _ (i .before .loop .inv .2) (i .loop-test .taken) (turn (c .before .before)) (c .before .number .ensures) (c .if1 .taken)
 
 mul-at : tie.Need-mul-at Inv-loop μ-loop
 mul-at c = omega (arith, room (c .before .before .before))
@@ -51,9 +53,9 @@ add-at-4 c = omega (arith, room (c .before .before .before))
 
 loop-again : tie.Need-loop-again Inv-loop μ-loop
 loop-again c =
-    let e = turn (c .before .before) in
+    let i = c .before .before .before in
     let s = c .before .before .before .before .before .before .args in
-    let n = hour-next (s .load) (s .count) (c .before .before .before .before .loop .h) in (omega arith, omega arith, search loop-next)
+    let n = hour-next (s .load) (s .count) (c .before .before .before .before .loop .h) in (omega arith, omega arith, loop-next _ _ _ _ _ _ (i .before .loop .inv .2) (i .loop-test .taken) (turn (c .before .before)) (c .before .number .ensures) (c .if1 .left))
 
 returns-2 : tie.Need-returns-2 Inv-loop μ-loop
 returns-2 c = search loop-done

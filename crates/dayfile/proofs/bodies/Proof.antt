@@ -10,6 +10,7 @@ use Rattle.verdict.specs.First.{scan}
 use Rattle.verdict.proofs.First.{loop-next, loop-stop, loop-done}
 use Rattle.exact.proofs.Lending.{part-length}
 use Rattle.verdict.specs.Verdict.{numberOf}
+use Rattle.body.specs.Layout.{kindOf}
 use Rattle.body.proofs.Facts.{one-ciso}
 use Rattle.dayfile.specs.File.{startAt, sizeAt, cisoBefore}
 use Rattle.dayfile.specs.Check.{bodyOf, bodiesRule}
@@ -39,7 +40,7 @@ size c =
 
 turn : (c : tie.After-check Inv-loop μ-loop) → let s = c .before .before .before .before .before .before .args in c .check .result ≡ bodyOf (s .limits) (now (s .file)) (c .before .before .before .before .loop .area)
 unfolding bodyOf
-turn c = cc
+turn c = c .check .ensures ∙ rw (c .before .before .before .before .loop .inv .1, c .before .before .word .ensures, c .before .body-at .ensures)
 
 -- no second CISO area
 one : (c : tie.After-word2 Inv-loop μ-loop) → c .before .before .before .before .before .before .before .loop .ciso + c .word2 .result ≤ 1
@@ -58,7 +59,9 @@ check-requires : tie.Need-check-requires Inv-loop μ-loop
 check-requires c κs = let n = size c in (omega arith, (omega arith, omega arith))
 
 returns : tie.Need-returns Inv-loop μ-loop
-returns c = let e = turn (c .before .before) in search loop-stop
+returns c =
+    let i = c .before .before .before .before .before in
+    loop-stop _ _ _ _ _ _ (i .before .loop .inv .3) (i .loop-test .taken) (turn (c .before .before)) (c .before .number .ensures) (c .if1 .taken)
 
 word-requires-2 : tie.Need-word-requires-2 Inv-loop μ-loop
 word-requires-2 c κs = let n = size (c .before .before .before) in omega arith
@@ -68,7 +71,10 @@ add-ciso c = record { fits = omega (arith, one c) }
 
 loop-again : tie.Need-loop-again Inv-loop μ-loop
 unfolding cisoBefore
-loop-again c = let e = turn (c .before .before .before) in (omega arith, rw add-one (cc), one c, search loop-next)
+loop-again c =
+    let i = c .before .before .before .before .before .before in
+    let kind = c .word2 .ensures ∙ ap kindOf (c .before .before .before .before .body-at .ensures) in
+    (omega arith, rw (add-one, i .before .loop .inv .1, kind), one c, loop-next _ _ _ _ _ _ (i .before .loop .inv .3) (i .loop-test .taken) (turn (c .before .before .before)) (c .before .before .number .ensures) (c .before .if1 .left))
 
 returns-2 : tie.Need-returns-2 Inv-loop μ-loop
 returns-2 c = search loop-done

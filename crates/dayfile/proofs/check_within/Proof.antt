@@ -20,16 +20,16 @@ unfolding checkWithin
 opened c = search tests
 
 past-head : (c : tie.Else4) → let s = c .before .before .before .before .before .before .before .args in let f = now (s .file) in let l = s .limits in checkWithin l f ≡ (contentsRule (l .words) f (wordAt f 2) orElse bodiesRule l f (wordAt f 2))
-past-head c = let o = opened (c .before .before .before) in search seq-next
+past-head c = seq-next _ _ _ _ _ (opened (c .before .before .before)) (c .before .before .head .ensures) (c .before .number .ensures) (c .if4 .left)
 
 counted : (c : tie.Else4) → let s = c .before .before .before .before .before .before .before .args in let f = now (s .file) in let l = s .limits in Head (l .areas) (length f / 4) (wordAt f 0) (wordAt f 1) (wordAt f 2) (wordAt f 3)
 counted c = head-kept _ _ (ap numberOf (sym (c .before .before .head .ensures)) ∙ sym (c .before .number .ensures) ∙ c .if4 .left)
 
 contents-is : (c : tie.After-contents) → let s = c .before .before .before .before .before .before .before .before .before .before .args in let f = now (s .file) in let l = s .limits in c .contents .result ≡ contentsRule (l .words) f (wordAt f 2)
-contents-is c = cc
+contents-is c = c .contents .ensures ∙ rw (c .before .before .word .ensures)
 
 bodies-is : (c : tie.After-bodies) → let s = c .before .before .before .before .before .before .before .before .before .before .before .before .before .args in let f = now (s .file) in let l = s .limits in c .bodies .result ≡ bodiesRule l f (wordAt f 2)
-bodies-is c = cc
+bodies-is c = c .bodies .ensures ∙ rw (c .before .before .before .before .before .word .ensures)
 
 returns : tie.Need-returns
 unfolding checkWithin
@@ -44,13 +44,13 @@ unfolding checkWithin
 returns-3 c = search tests
 
 returns-4 : tie.Need-returns-4
-returns-4 c = let o = opened (c .before .before .before) in search seq-stop
+returns-4 c = seq-stop _ _ _ _ _ (opened (c .before .before .before)) (c .before .before .head .ensures) (c .before .number .ensures) (c .if4 .taken)
 
 contents-requires : tie.Need-contents-requires
 contents-requires c κs = let h = counted (c .before .before) in let w = c .before .word .ensures in omega arith
 
 returns-5 : tie.Need-returns-5
-returns-5 c = let o = past-head (c .before .before .before .before .before) in let e = contents-is (c .before .before) in search seq-stop
+returns-5 c = seq-stop _ _ _ _ _ (past-head (c .before .before .before .before .before)) (contents-is (c .before .before)) (c .before .number2 .ensures) (c .if5 .taken)
 
 bodies-requires : tie.Need-bodies-requires
 bodies-requires c κs =

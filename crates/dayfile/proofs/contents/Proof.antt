@@ -22,18 +22,25 @@ abbrev μ-loop : tie.MeasureT-loop
 
 turn : (c : tie.After-entry Inv-loop μ-loop) → let s = c .before .before .before .before .before .before .before .args in c .entry .result ≡ entryOf (s .most) (now (s .file)) (s .n) (c .before .before .before .before .before .loop .k)
 unfolding entryOf
-turn c = cc
+turn c =
+    let l = c .before .before .before .before .before .loop in
+    c .entry .ensures ∙ rw (l .inv .1, l .inv .2, c .before .before .before .word .ensures, c .before .before .word2 .ensures, c .before .word3 .ensures)
 
 loop-holds : tie.Need-loop-holds Inv-loop μ-loop
 unfolding numberBefore dueAt contentsRule
 loop-holds c = (omega arith, refl, refl, simp sub-zero)
 
 returns : tie.Need-returns Inv-loop μ-loop
-returns c = let e = turn (c .before .before) in search loop-stop
+returns c =
+    let i = c .before .before .before .before .before .before in
+    loop-stop _ _ _ _ _ _ (i .before .loop .inv .3) (i .loop-test .taken) (turn (c .before .before)) (c .before .number .ensures) (c .if1 .taken)
 
 loop-again : tie.Need-loop-again Inv-loop μ-loop
 unfolding numberBefore dueAt
-loop-again c = let e = turn (c .before .before) in (omega arith, rw add-one (cc), rw add-one (cc), search loop-next)
+loop-again c =
+    let i = c .before .before .before .before .before .before in
+    let w = c .before .before .before in
+    (omega arith, rw add-one (w .before .before .word .ensures), rw (add-one, w .before .word2 .ensures, w .word3 .ensures), loop-next _ _ _ _ _ _ (i .before .loop .inv .3) (i .loop-test .taken) (turn (c .before .before)) (c .before .number .ensures) (c .if1 .left))
 
 returns-2 : tie.Need-returns-2 Inv-loop μ-loop
 returns-2 c = search loop-done

@@ -1,7 +1,7 @@
 use borrow.Author.Needs.{needs}
 use denote.Ref.{now}
 use Prim.Native.Nat.{_-_, _≤_}
-use mathlib.Core.Path.{_≡_, refl}
+use mathlib.Core.Path.{_≡_, refl, _∙_}
 use native.Mathlib.Omega.{arith}
 use Rattle.verdict.specs.First.{scan}
 use Rattle.verdict.proofs.First.{loop-next, loop-stop, loop-done}
@@ -18,17 +18,19 @@ abbrev μ-loop : tie.MeasureT-loop
 
 turn : (c : tie.After-range Inv-loop μ-loop) → let s = c .before .before .before .before .before .args in c .range .result ≡ deficiencyOf (s .start) (now (s .body)) (s .at) (c .before .before .before .loop .i)
 unfolding deficiencyOf
-turn c = cc
+turn c = c .range .ensures ∙ rw (c .before .word .ensures)
 
 loop-holds : tie.Need-loop-holds Inv-loop μ-loop
 unfolding deficienciesRule
 loop-holds c = (omega arith, refl)
 
 returns : tie.Need-returns Inv-loop μ-loop
-returns c = let e = turn (c .before .before) in search loop-stop
+returns c =
+    let i = c .before .before .before .before in
+    loop-stop _ _ _ _ _ _ (i .before .loop .inv .1) (i .loop-test .taken) (turn (c .before .before)) (c .before .number .ensures) (c .if1 .taken)
 
 loop-again : tie.Need-loop-again Inv-loop μ-loop
-loop-again c = let e = turn (c .before .before) in (omega arith, search loop-next)
+loop-again c = let i = c .before .before .before .before in (omega arith, loop-next _ _ _ _ _ _ (i .before .loop .inv .1) (i .loop-test .taken) (turn (c .before .before)) (c .before .number .ensures) (c .if1 .left))
 
 returns-2 : tie.Need-returns-2 Inv-loop μ-loop
 returns-2 c = search loop-done

@@ -23,7 +23,7 @@ abbrev μ-loop : tie.MeasureT-loop
 
 turn : (c : tie.After-demand Inv-loop μ-loop) → let s = c .before .before .before .before .before .args in c .demand .result ≡ demandOf (s .start) (now (s .body)) (s .from) (c .before .before .before .loop .i)
 unfolding demandOf
-turn c = cc
+turn c = c .demand .ensures ∙ rw (c .before .before .before .loop .inv .1, c .before .word .ensures)
 
 small : (c : tie.Else1 Inv-loop μ-loop) → c .before .before .before .before .before .loop .running + c .before .before .before .word .result ≤ 100000000
 small c = demand-kept _ _ _ (ap numberOf (sym (c .before .before .demand .ensures)) ∙ sym (c .before .number .ensures) ∙ c .if1 .left) .1
@@ -33,14 +33,18 @@ unfolding runningDemand demandsRule
 loop-holds c = (omega arith, refl, omega arith, simp sub-zero)
 
 returns : tie.Need-returns Inv-loop μ-loop
-returns c = let e = turn (c .before .before) in search loop-stop
+returns c =
+    let i = c .before .before .before .before in
+    loop-stop _ _ _ _ _ _ (i .before .loop .inv .3) (i .loop-test .taken) (turn (c .before .before)) (c .before .number .ensures) (c .if1 .taken)
 
 add-running : tie.Need-add-running Inv-loop μ-loop
 add-running c = omega (arith, small c)
 
 loop-again : tie.Need-loop-again Inv-loop μ-loop
 unfolding runningDemand
-loop-again c = let e = turn (c .before .before) in (omega arith, rw add-one (cc), small c, search loop-next)
+loop-again c =
+    let i = c .before .before .before .before in
+    (omega arith, rw (add-one, i .before .loop .inv .1, c .before .before .before .word .ensures), small c, loop-next _ _ _ _ _ _ (i .before .loop .inv .3) (i .loop-test .taken) (turn (c .before .before)) (c .before .number .ensures) (c .if1 .left))
 
 returns-2 : tie.Need-returns-2 Inv-loop μ-loop
 returns-2 c = search loop-done

@@ -48,7 +48,9 @@ check-hour-requires c κs =
     ((s .pre .0, (c .loop-test .taken, l .inv .1)), (day-of-its-days _ _ _ _ d, (rw (days-kept _ _ _ _ d) (s .pre .1 .0), s .pre .1 .1)))
 
 returns : tie.Need-returns Inv-loop μ-loop
-returns c = let e = turn (c .before .before) in search loop-stop
+returns c =
+    let i = c .before .before .before in
+    loop-stop _ _ _ _ _ _ (i .before .loop .inv .2) (i .loop-test .taken) (turn (c .before .before)) (c .before .number .ensures) (c .if1 .taken)
 
 add-at-2 : tie.Need-add-at-2 Inv-loop μ-loop
 add-at-2 c = let r = inside (c .before .before .before) in omega arith
@@ -61,9 +63,9 @@ add-at-4 c = let r = inside (c .before .before .before) in omega (arith, c .befo
 
 loop-again : tie.Need-loop-again Inv-loop μ-loop
 loop-again c =
-    let e = turn (c .before .before) in
+    let i = c .before .before .before in
     let b = now (c .before .before .before .before .before .before .before .before .before .args .body) in
-    (omega arith, omega (arith, hour-next (pointsOf b) (coordinatorsOf b) (c .before .before .before .before .loop .h), c .before .before .before .before .before .before .word .ensures, c .before .before .before .before .before .word2 .ensures, c .before .before .before .before .loop .inv .1), search loop-next)
+    (omega arith, omega (arith, hour-next (pointsOf b) (coordinatorsOf b) (c .before .before .before .before .loop .h), c .before .before .before .before .before .before .word .ensures, c .before .before .before .before .before .word2 .ensures, c .before .before .before .before .loop .inv .1), loop-next _ _ _ _ _ _ (i .before .loop .inv .2) (i .loop-test .taken) (turn (c .before .before)) (c .before .number .ensures) (c .if1 .left))
 
 returns-2 : tie.Need-returns-2 Inv-loop μ-loop
 returns-2 c = search loop-done

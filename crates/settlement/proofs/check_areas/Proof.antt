@@ -43,10 +43,12 @@ check-area-requires c κs =
     rw (c .body-at .ensures) (s .pre .0 .0 .body k (below (c .before .before .before)), (s .pre .1 .1 k (c .before .before .before .loop-test .taken), omega arith))
 
 returns : tie.Need-returns Inv-loop μ-loop
-returns c = let e = turn (c .before .before) in search loop-stop
+returns c =
+    let i = c .before .before .before .before .before .before in
+    loop-stop _ _ _ _ _ _ (i .before .loop .inv .1) (i .loop-test .taken) (turn (c .before .before)) (c .before .number .ensures) (c .if1 .taken)
 
 loop-again : tie.Need-loop-again Inv-loop μ-loop
-loop-again c = let e = turn (c .before .before) in (omega arith, search loop-next)
+loop-again c = let i = c .before .before .before .before .before .before in (omega arith, loop-next _ _ _ _ _ _ (i .before .loop .inv .1) (i .loop-test .taken) (turn (c .before .before)) (c .before .number .ensures) (c .if1 .left))
 
 returns-2 : tie.Need-returns-2 Inv-loop μ-loop
 returns-2 c = search loop-done

@@ -26,7 +26,7 @@ abbrev μ-loop : tie.MeasureT-loop
 -- what `check_row` answered is the rule's answer for row i
 turn : (c : tie.After-check-row Inv-loop μ-loop) → let s = c .before .before .before .before .before .before .before .args in c .check-row .result ≡ rowOf (now (s .coordinators)) (now (s .demands)) (c .before .before .before .before .loop .i)
 unfolding rowOf
-turn c = cc
+turn c = let l = c .before .before .before .before .loop in c .check-row .ensures ∙ rw (l .inv .1, l .inv .2)
 
 -- past an accepted row the running demand is within its bound
 small : (c : tie.Else1 Inv-loop μ-loop) → let s = c .before .before .before .before .before .before .before .before .before .args in let l = c .before .before .before .before .before .before .loop in l .running + getD (now (s .demands)) (l .i) 0 ≤ 100000000
@@ -38,7 +38,9 @@ unfolding coordinatorBefore demandBefore total rowsRule
 loop-holds c = (omega arith, refl, refl, omega arith, simp sub-zero)
 
 returns : tie.Need-returns Inv-loop μ-loop
-returns c = let e = turn (c .before .before) in search loop-stop
+returns c =
+    let i = c .before .before .before .before .before in
+    loop-stop _ _ _ _ _ _ (i .before .loop .inv .4) (i .loop-test .taken) (turn (c .before .before)) (c .before .number .ensures) (c .if1 .taken)
 
 add-running : tie.Need-add-running Inv-loop μ-loop
 add-running c = omega (arith, small c)
@@ -46,10 +48,9 @@ add-running c = omega (arith, small c)
 loop-again : tie.Need-loop-again Inv-loop μ-loop
 unfolding coordinatorBefore
 loop-again c =
-    let e = turn (c .before .before) in
-    let l = c .before .before .before .before .before in
-    let n = before-next (now (l .before .before .before .before .args .demands)) (l .before .loop .i) (l .loop-test .taken) in
-    (omega arith, rw add-one, (cc), small c, search loop-next)
+    let i = c .before .before .before .before .before in
+    let n = before-next (now (i .before .before .before .before .args .demands)) (i .before .loop .i) (i .loop-test .taken) in
+    (omega arith, rw add-one, rw (i .before .loop .inv .2) (sym n), small c, loop-next _ _ _ _ _ _ (i .before .loop .inv .4) (i .loop-test .taken) (turn (c .before .before)) (c .before .number .ensures) (c .if1 .left))
 
 returns-2 : tie.Need-returns-2 Inv-loop μ-loop
 returns-2 c = search loop-done

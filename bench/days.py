@@ -18,6 +18,7 @@ from pathlib import Path
 sys.dont_write_bytecode = True  # running a tool leaves nothing behind in the repository
 sys.path.insert(0, str(Path(__file__).resolve().parent.parent / "tools"))
 
+import arguments
 import days
 
 OTHER = (0, 2, 1)
@@ -68,12 +69,15 @@ def all_days():
 
 
 def main():
-    if len(sys.argv) != 2:
-        sys.exit("usage: days.py FOLDER")
-    folder = Path(sys.argv[1])
-    folder.mkdir(parents=True, exist_ok=True)
-    for name, file_bytes in all_days():
-        (folder / (name + ".day")).write_bytes(file_bytes)
+    parser = arguments.parser_of(__doc__)
+    parser.add_argument("folder", metavar="FOLDER", type=Path)
+    folder = parser.parse_args().folder
+    try:
+        folder.mkdir(parents=True, exist_ok=True)
+        for name, file_bytes in all_days():
+            (folder / (name + ".day")).write_bytes(file_bytes)
+    except OSError as error:
+        parser.error("the days cannot be written: %s" % error)
 
 
 if __name__ == "__main__":

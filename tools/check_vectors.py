@@ -9,6 +9,7 @@ from pathlib import Path
 
 sys.dont_write_bytecode = True  # running a tool leaves nothing behind in the repository
 
+import arguments
 import reference
 
 VECTORS = Path(__file__).resolve().parent.parent / "vectors"
@@ -31,6 +32,7 @@ def text_of(path):
 
 
 def main():
+    arguments.parser_of(__doc__).parse_args()
     days = sorted(VECTORS.glob("*.day"))
     if not days:
         sys.exit("vectors/ has no day file.")

@@ -17,6 +17,10 @@ import random
 import struct
 import sys
 
+sys.dont_write_bytecode = True  # running a tool leaves nothing behind in the repository
+
+import arguments
+
 MISSING = -2147483648
 PEAK_WORD = 4194240
 HOURS = 24
@@ -402,9 +406,9 @@ def random_day(rng, style=None):
 
 
 def main():
-    if len(sys.argv) != 2:
-        sys.exit("usage: days.py SEED > FILE.day")
-    sys.stdout.buffer.write(random_day(random.Random(int(sys.argv[1]))).to_bytes())
+    parser = arguments.parser_of(__doc__)
+    parser.add_argument("seed", metavar="SEED", type=int)
+    sys.stdout.buffer.write(random_day(random.Random(parser.parse_args().seed)).to_bytes())
 
 
 if __name__ == "__main__":

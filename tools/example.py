@@ -11,6 +11,7 @@ from pathlib import Path
 
 sys.dont_write_bytecode = True  # running a tool leaves nothing behind in the repository
 
+import arguments
 import days
 import reference
 
@@ -191,12 +192,9 @@ def check():
 
 
 def main():
-    if sys.argv[1:] == ["make"]:
-        make()
-    elif sys.argv[1:] == ["check"]:
-        check()
-    else:
-        sys.exit("usage: example.py make|check")
+    parser = arguments.parser_of(__doc__)
+    parser.add_argument("command", choices=("make", "check"))
+    {"make": make, "check": check}[parser.parse_args().command]()
 
 
 if __name__ == "__main__":

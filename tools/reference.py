@@ -16,6 +16,10 @@ import sys
 from collections import namedtuple
 from fractions import Fraction
 
+sys.dont_write_bytecode = True  # running a tool leaves nothing behind in the repository
+
+import arguments
+
 MISSING = -2147483648
 LARGEST_NUMBER = 2147483647
 PEAK_WORD = 4194240
@@ -627,6 +631,7 @@ def rounding_figures():
 
 
 def main():
+    arguments.parser_of(__doc__).parse_args()
     wrong = 0
     for figures in (
         rounding_figures,
@@ -647,5 +652,4 @@ def main():
 
 
 if __name__ == "__main__":
-    sys.dont_write_bytecode = True  # running a tool leaves nothing behind in the repository
     main()

@@ -20,7 +20,6 @@ The expected lines come from reference.py alone. Each group of cases is one gene
 a seed of its own, so that a group added or left out does not move another.
 """
 
-import argparse
 import random
 import struct
 import sys
@@ -29,6 +28,7 @@ from pathlib import Path
 
 sys.dont_write_bytecode = True  # running a tool leaves nothing behind in the repository
 
+import arguments
 import days
 import reference
 from days import DATE, HEAD, HOUR_NUMBERS, LARGEST_NUMBER, MISSING, PEAK_WORD
@@ -1515,18 +1515,25 @@ def list_cases():
         print(number, group, case.call, case.x, len(case.payload))
 
 
-def write_stream(arguments):
-    calls = [int(call) for call in arguments.calls.split(",")]
-    rng = random.Random(arguments.seed)
-    with open(arguments.input, "wb") as stream, open(arguments.expected, "w") as lines:
-        for _ in range(arguments.cases):
-            case = random_case(rng, rng.choice(calls))
+def calls_of(text):
+    """Calls by their numbers, as in 1,5."""
+    calls = [int(call) for call in text.split(",")]
+    if not set(calls) <= set(ALL_CALLS):
+        raise ValueError(text)
+    return calls
+
+
+def write_stream(asked):
+    rng = random.Random(asked.seed)
+    with open(asked.input, "wb") as stream, open(asked.expected, "w") as lines:
+        for _ in range(asked.cases):
+            case = random_case(rng, rng.choice(asked.calls))
             stream.write(case_bytes(case))
             lines.write(line(case))
 
 
 def main():
-    parser = argparse.ArgumentParser(description="The cases of the vectors program.")
+    parser = arguments.parser_of(__doc__)
     commands = parser.add_subparsers(dest="command", required=True)
     commands.add_parser("make", help="write crates/vectors/stdin and crates/vectors/stdout")
     commands.add_parser("check", help="exit 1 if what is committed differs")
@@ -1536,16 +1543,19 @@ def main():
     stream.add_argument("--cases", type=int, required=True)
     stream.add_argument("--input", required=True)
     stream.add_argument("--expected", required=True)
-    stream.add_argument("--calls", default=",".join(str(call) for call in ALL_CALLS))
-    arguments = parser.parse_args()
-    if arguments.command == "make":
+    stream.add_argument("--calls", type=calls_of, default=ALL_CALLS)
+    asked = parser.parse_args()
+    if asked.command == "make":
         make()
-    elif arguments.command == "check":
+    elif asked.command == "check":
         check()
-    elif arguments.command == "list":
+    elif asked.command == "list":
         list_cases()
     else:
-        write_stream(arguments)
+        try:
+            write_stream(asked)
+        except OSError as error:
+            stream.error("the cases cannot be written: %s" % error)
 
 
 if __name__ == "__main__":

@@ -11,18 +11,22 @@ use borrow.Author.Tests.{leb-true, le-leb, eqb-true, eq-eqb}
 use Rattle.exact.proofs.Lending.{part-length}
 use Rattle.words.specs.Word.{wordAt}
 use Rattle.limits.specs.declared.Limits.{Limits}
+use Rattle.limits.specs.Ranges.{largestNumber, leastBodyWords, peakWord}
+use Rattle.limits.specs.Editions.{editionKnown, KnownEdition}
 use Rattle.calendar.specs.Date.{realDate}
 use Rattle.verdict.specs.declared.Verdict.the-variants.{Accepted, BadEdition, BadAreaCount, BadDate, BadPeakHours, BadContents}
 use Rattle.verdict.specs.Verdict.{numberOf}
 use Rattle.verdict.specs.First.{_orElse_}
 use Rattle.verdict.proofs.First.{both}
 use Rattle.dayfile.specs.File.{numberAt, startAt, sizeAt, numberBefore, dueAt, bodyAt, cisoBefore}
-use Rattle.dayfile.specs.Check.{headRule, headOf, entryRule, entryOf, contentsRule, bodyOf, bodiesRule}
+use Rattle.dayfile.specs.Check.{fileHeadRule, fileHeadOf, entryRule, entryRuleAt, contentsRule, bodyRuleAt, bodiesRule}
 use Rattle.dayfile.proofs.Entries.{Entry, entry, within}
 use Rattle.dayfile.proofs.Facts.{head-kept, known}
-use Rattle.acceptance.specs.WellFormed.{BodyKept, FileKept}
+use Rattle.body.specs.Kept.{BodyKept}
+use Rattle.acceptance.specs.WellFormed.{FileKept}
 use Rattle.acceptance.proofs.Tests.{both-true, between, between-test, above, above-test}
-use Rattle.acceptance.proofs.Judged.{Judged, Nothing, Word, Both, Each, Behind, none, _then_, _and_, for-each, accepted-judged, rule-judged, or-judged, scan-judged, judged-as, behind-judged}
+use Rattle.acceptance.proofs.Judged.{Judged, Nothing, Word, Both, Each, Behind, none, _then_, _and_, for-each, accepted-judged, rule-judged}
+use Rattle.acceptance.proofs.Judged.{or-judged, scan-judged, judged-as, behind-judged}
 use Rattle.acceptance.proofs.BodyWords.{body-judged}
 
 -- ---- the head
@@ -37,19 +41,19 @@ known-test x a b h = either-true (eqb x a) (eqb x b) (⊎-elim (λ e. inl (eq-eq
 
 abbrev HeadWords : (areas size edition day n peak : ℕ) → ℕ → Type 0
 HeadWords areas size edition day n peak =
-    Word 0 (edition ≡ 1)
+    Word 0 (KnownEdition edition)
     (Word 1 (realDate day ≡ true)
     (Word 2 ((1 ≤ n) × (n ≤ areas) × (4 + 3 * n ≤ size))
-    (Word 3 ((peak ≡ 0) ⊎ (peak ≡ 4194240)) Nothing)))
+    (Word 3 ((peak ≡ 0) ⊎ (peak ≡ peakWord)) Nothing)))
 
-head-judged : (areas size edition day n peak : ℕ) → Judged (headRule areas size edition day n peak) 0 4 (HeadWords areas size edition day n peak)
-unfolding headRule
+head-judged : (areas size edition day n peak : ℕ) → Judged (fileHeadRule areas size edition day n peak) 0 4 (HeadWords areas size edition day n peak)
+unfolding fileHeadRule
 head-judged areas size edition day n peak =
     rule-judged BadEdition _ 1 4 _ _ (omega arith) (omega arith) (omega arith)
     (rule-judged BadDate _ 2 4 _ _ (omega arith) (omega arith) (omega arith)
     (rule-judged BadAreaCount _ 3 4 _ _ (omega arith) (omega arith) (omega arith)
     (rule-judged BadPeakHours Accepted 4 4 _ Nothing (omega arith) (omega arith) (omega arith) (accepted-judged 4 4)
-    (eqb peak 0 || eqb peak 4194240) (known peak 0 4194240) (known-test peak 0 4194240))
+    (eqb peak 0 || eqb peak peakWord) (known peak 0 peakWord) (known-test peak 0 peakWord))
     (leb 1 n && leb n areas && leb (4 + 3 * n) size)
     (λ h.
     let b = both (leb 1 n && leb n areas) (leb (4 + 3 * n) size) h in
@@ -57,7 +61,7 @@ head-judged areas size edition day n peak =
     (d .0, d .1, leb-true (4 + 3 * n) size (b .1)))
     (λ h. both-true _ _ (between-test 1 n areas (h .0, h .1)) (le-leb (4 + 3 * n) size (h .2))))
     (realDate day) (λ h. h) (λ h. h))
-    (eqb edition 1) (eqb-true edition 1) (eq-eqb edition 1)
+    (editionKnown edition) (eqb-true edition 1) (eq-eqb edition 1)
 
 -- ---- an entry of the contents
 
@@ -78,9 +82,9 @@ module _ (k n end size : ℕ) where
 
 abbrev EntryWords : (most size n k at before due number start words : ℕ) → ℕ → Type 0
 EntryWords most size n k at before due number start words =
-    Word at ((before < number) × (number ≤ 2147483647))
+    Word at ((before < number) × (number ≤ largestNumber))
     (Word (at + 1) (start ≡ due)
-    (Word (at + 2) ((800 ≤ words) × (words ≤ most) × (start + words ≤ size) × (k + 1 ≡ n → start + words ≡ size)) Nothing))
+    (Word (at + 2) ((leastBodyWords ≤ words) × (words ≤ most) × (start + words ≤ size) × (k + 1 ≡ n → start + words ≡ size)) Nothing))
 
 entry-judged : (most size n k at before due number start words end : ℕ) → at + 2 < end
     → Judged (entryRule most size n k at before due number start words) at end (EntryWords most size n k at before due number start words)
@@ -88,15 +92,15 @@ entry-judged most size n k at before due number start words end room =
     rule-judged (BadContents at) _ (at + 1) end _ _ (omega arith) (omega arith) (omega arith)
     (rule-judged (BadContents (at + 1)) _ (at + 2) end _ _ (omega arith) (omega arith) (omega arith)
     (rule-judged (BadContents (at + 2)) Accepted end end _ Nothing (omega arith) (omega arith) room (accepted-judged end end)
-    (leb 800 words && leb words most && cond (eqb (k + 1) n) (eqb (start + words) size) (leb (start + words) size))
+    (leb leastBodyWords words && leb words most && cond (eqb (k + 1) n) (eqb (start + words) size) (leb (start + words) size))
     (λ h.
-    let b = both (leb 800 words && leb words most) _ h in
-    let d = between 800 words most (b .0) in
+    let b = both (leb leastBodyWords words && leb words most) _ h in
+    let d = between leastBodyWords words most (b .0) in
     let e = end-kept k n (start + words) size (b .1) in
     (d .0, d .1, e .0, e .1))
-    (λ h. both-true _ _ (between-test 800 words most (h .0, h .1)) (end-test k n (start + words) size (h .2, h .3))))
+    (λ h. both-true _ _ (between-test leastBodyWords words most (h .0, h .1)) (end-test k n (start + words) size (h .2, h .3))))
     (eqb start due) (eqb-true start due) (eq-eqb start due))
-    (ltb before number && leb number 2147483647) (above before number 2147483647) (above-test before number 2147483647)
+    (ltb before number && leb number largestNumber) (above before number largestNumber) (above-test before number largestNumber)
 
 -- ---- the file
 
@@ -109,14 +113,15 @@ module _ (limits : Limits) (file : List ℕ) where
     EntryOf k = EntryWords (limits .words) words n k (4 + 3 * k) (numberBefore file k) (dueAt file n k) (numberAt file k) (startAt file k) (sizeAt file k)
 
     contents-judged : Judged (contentsRule (limits .words) file n) 4 (4 + 3 * n) (Each 0 n EntryOf)
-    unfolding contentsRule entryOf
+    unfolding contentsRule entryRuleAt
     contents-judged =
-        scan-judged (entryOf (limits .words) file n) (λ k. 4 + 3 * k) EntryOf n (λ k p. omega arith)
-        (λ k p. entry-judged (limits .words) words n k (4 + 3 * k) (numberBefore file k) (dueAt file n k) (numberAt file k) (startAt file k) (sizeAt file k) (4 + 3 * suc k) (omega arith))
+        scan-judged (entryRuleAt (limits .words) file n) (λ k. 4 + 3 * k) EntryOf n (λ k p. omega arith)
+        (λ k p. entry-judged (limits .words) words n k (4 + 3 * k) (numberBefore file k) (dueAt file n k) (numberAt file k) (startAt file k) (sizeAt file k)
+        (4 + 3 * suc k) (omega arith))
         _ _ (omega arith) (omega arith)
 
     abbrev BodyWords : ℕ → ℕ → Type 0
-    BodyWords k = BodyKept (limits .points) (startAt file k) (bodyAt file k) (cisoBefore file k)
+    BodyWords k p = BodyKept (λ j. startAt file k + j < p) (limits .points) (cisoBefore file k) (bodyAt file k)
 
     -- where the contents are accepted, each body stands where it is due, and up to where the next is due
     module _ (contents : numberOf (contentsRule (limits .words) file n) ≡ 0) where
@@ -131,8 +136,8 @@ module _ (limits : Limits) (file : List ℕ) where
         unfolding dueAt
         body-ends = omega (arith, body-size)
 
-        one-judged : Judged (bodyOf limits file k) (dueAt file n k) (dueAt file n (suc k)) (BodyWords k)
-        unfolding bodyOf
+        one-judged : Judged (bodyRuleAt limits file k) (dueAt file n k) (dueAt file n (suc k)) (BodyWords k)
+        unfolding bodyRuleAt
         one-judged =
             rw (← (entry-k .here), body-ends)
             (body-judged (startAt file k) (bodyAt file k) limits (cisoBefore file k) (omega (arith, body-size, entry-k .least)))
@@ -153,7 +158,7 @@ module _ (limits : Limits) (file : List ℕ) where
       unfolding bodiesRule
       bodies-judged room =
           behind-judged _ _ _ _
-          (scan-judged (bodyOf limits file) (dueAt file n) BodyWords n due-rising one-judged _ _ (omega (arith, first-due)) (bodies-end n refl room))
+          (scan-judged (bodyRuleAt limits file) (dueAt file n) BodyWords n due-rising one-judged _ _ (omega (arith, first-due)) (bodies-end n refl room))
 
   abbrev n : ℕ
   n = wordAt file 2
@@ -164,8 +169,9 @@ module _ (limits : Limits) (file : List ℕ) where
       Both (HeadWords (limits .areas) words (wordAt file 0) (wordAt file 1) n (wordAt file 3))
       (Both (Each 0 n (EntryOf n)) (Behind (4 + 3 * n) (Each 0 n (BodyWords n))))
 
-  words-judged : 4 ≤ words → Judged (headOf (limits .areas) file orElse contentsRule (limits .words) file n orElse bodiesRule limits file n) 0 words Words
-  unfolding headOf
+  words-judged : 4 ≤ words → Judged (fileHeadOf (limits .areas) file orElse contentsRule (limits .words) file n orElse bodiesRule limits file n) 0 words
+      Words
+  unfolding fileHeadOf
   words-judged some =
       or-judged _ _ _ 4 _ _ _ (omega arith) some (head-judged _ _ _ _ _ _)
       (λ p h. contents-judged n .early p h and record { behind = λ g. absurd (omega arith) })
@@ -196,5 +202,6 @@ module _ (limits : Limits) (file : List ℕ) where
         body = λ i l g. k .second .second .behind g .each i zero-le l;
       }
 
-  pub file-judged : 4 ≤ words → Judged (headOf (limits .areas) file orElse contentsRule (limits .words) file n orElse bodiesRule limits file n) 0 words (FileKept limits file)
+  pub file-judged : 4 ≤ words → Judged (fileHeadOf (limits .areas) file orElse contentsRule (limits .words) file n orElse bodiesRule limits file n) 0
+      words (FileKept limits file)
   file-judged some = judged-as _ _ _ Words _ words-kept kept-words (words-judged some)

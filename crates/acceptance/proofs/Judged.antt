@@ -13,7 +13,7 @@ use Rattle.verdict.specs.Verdict.{numberOf, placeOf}
 use Rattle.verdict.specs.First.{rule_else_then_, _orElse_, scan}
 use Rattle.verdict.proofs.First.{seq-stop, seq-next}
 
--- ---- "the words before p keep their rules", in the ways in which a check is put together
+-- ---- the words before p keep their rules, in the ways in which a check is put together
 
 -- of no words
 pub record Nothing (p : ℕ) : Type 0 where
@@ -181,9 +181,13 @@ module _ (part : ℕ → Verdict) (from : ℕ → ℕ) (Part : ℕ → ℕ → T
       let here = rising k (omega arith) in (
         omega (arith, here, later .0),
         judged-as _ _ _ (Both (Part k) (Each (suc k) n Part)) _
-            (λ p h. record { each = λ i a b. dite (decLt k i) (λ l. h .second .each i l b) (λ l. subst (λ (j : ℕ). Part j p) (omega (arith, l)) (h .first)) })
+            (λ p h. record {
+              each = λ i a b. dite (decLt k i) (λ l. h .second .each i l b)
+                  (λ l. subst (λ (j : ℕ). Part j p) (omega (arith, l)) (h .first));
+            })
             (λ p h. h .each k (omega arith) (omega arith) and record { each = λ i a b. h .each i (omega arith) b })
-            (and-judged (part k) (scan part (suc k) m) (from k) (from (suc k)) (from n) (Part k) (Each (suc k) n Part) here (later .0) (judged k (omega arith)) (later .1)),
+            (and-judged (part k) (scan part (suc k) m) (from k) (from (suc k)) (from n) (Part k) (Each (suc k) n Part) here (later .0)
+            (judged k (omega arith)) (later .1)),
       )
 
   pub scan-judged : (first end : ℕ) → first ≤ from 0 → from n ≤ end → Judged (scan part 0 n) first end (Each 0 n Part)

@@ -3,5 +3,7 @@ pub mod Judged
 pub mod HourWords
 pub mod BodyWords
 pub mod FileWords
+pub mod Numbers
 pub mod Acceptance
 pub mod SoundAccepted
+pub mod LookedUp

@@ -1,1 +1,3 @@
 pub mod WellFormed
+pub mod Numbers
+pub mod LookedUp

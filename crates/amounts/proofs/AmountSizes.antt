@@ -1,16 +1,24 @@
--- The amounts of an hour of a sound body are within what can be shared: 10,000,000,000 cents.
+-- The amounts of an hour of a sound body are within what can be shared.
 use Prim.Native.Nat.{ℕ, _≤_, _<_, zero-le}
 use mathlib.Core.Bool.{Bool, true, false, cond, not, _&&_}
 use mathlib.Core.List.{List}
+use mathlib.Core.Path.{_≡_, ap, _∙_}
 use native.Mathlib.Omega.{arith}
 use lib.Dec.{eqb}
 use lib.IntN.{ℤ, pos, natAbs, _+ℤ_}
 use Rattle.exact.proofs.Magnitude.{abs-add}
+use Rattle.limits.specs.Ranges.{dayHours, mostMarketPrice, mostAmount, plainPoints}
 use Rattle.body.specs.Layout.{flagOf, hourAt}
-use Rattle.body.specs.Sound.{Sound}
+use Rattle.body.specs.Kept.{Sound}
+use Rattle.body.proofs.Kept.{always}
 use Rattle.price.proofs.Answers.{price-within}
+use Rattle.surcharge.specs.declared.Terms.{Terms}
+use Rattle.surcharge.specs.Ranges.{TermsKept}
 use Rattle.surcharge.specs.Surcharge.{peakHour, onPeakOf, offPeakOf}
-use Rattle.amounts.specs.Amounts.{upwardAt, tierAt, dayTier, dayUpward, hubPrice, hourPrice, priceFrom, onPeakAmount, offPeakAmount, downwardAmount, amountAt}
+use Rattle.amounts.specs.declared.Amounts.{Amounts}
+use Rattle.amounts.specs.Ranges.{AmountsRanged}
+use Rattle.amounts.specs.Amounts.{upwardAt, tierAt, dayTier, dayUpward, hubPrice, hourPrice, priceFrom, onPeakAmount, offPeakAmount}
+use Rattle.amounts.specs.Amounts.{downwardAmount, amountAt, amountsOf}
 use Rattle.surcharge.proofs.Sizes.{on-peak-small, off-peak-small, downward-small}
 use Rattle.amounts.proofs.Quantities as Q
 use Rattle.amounts.proofs.Hours.{hour-ranged, pairs-ranged, most-small, hub-small}
@@ -20,43 +28,72 @@ where-made : (m : ℕ) (t : Bool) (z : ℤ) → natAbs z ≤ m → natAbs (cond 
 where-made m true z h = h
 where-made m false z h = zero-le
 
-module _ (body : List ℕ) (sound : Sound 32 body) (h : ℕ) (below : h < 24) where
-  price-small : natAbs (hourPrice body h) ≤ 20000000
+module _ (body : List ℕ) (sound : Sound plainPoints body) (h : ℕ) (below : h < dayHours) where
+  price-small : natAbs (hourPrice body h) ≤ mostMarketPrice
   unfolding priceFrom
   price-small = price-within _ _ (pairs-ranged body sound h below .ranged)
 
-  pub down-small : natAbs (downwardAmount body h) ≤ 1000000000
-  unfolding downwardAmount
-  down-small =
-      where-made 1000000000 (eqb (flagOf body) 1) _
-      (downward-small _ _ (Q.downward-small body (hourAt body h) (hour-ranged body sound h below)) (sound .mec h below))
+  module _ (terms : Terms) where
+    pub down-small : natAbs (downwardAmount terms body h) ≤ 1000000000
+    unfolding downwardAmount
+    down-small =
+        where-made 1000000000 (eqb (flagOf body) 1) _
+        (downward-small terms _ _ (Q.downward-small body (hourAt body h) (hour-ranged body sound h below)) (sound .mec h below always))
 
-  off-of : natAbs (offPeakOf (upwardAt body h) (tierAt body h) (hourPrice body h)) ≤ 4000000000
-  off-of = off-peak-small _ (tierAt body h) _ (Q.upward-small body (hourAt body h) (hour-ranged body sound h below)) price-small
+    off-of : natAbs (offPeakOf terms (upwardAt body h) (tierAt body h) (hourPrice body h)) ≤ 4000000000
+    off-of = off-peak-small terms _ (tierAt body h) _ (Q.upward-small body (hourAt body h) (hour-ranged body sound h below)) price-small
 
-  pub off-small : (peak : ℕ) → natAbs (offPeakAmount body peak h) ≤ 4000000000
-  unfolding offPeakAmount
-  off-small peak = where-made 4000000000 (eqb (flagOf body) 1 && not (peakHour peak h)) _ off-of
+    pub off-small : natAbs (offPeakAmount terms body h) ≤ 4000000000
+    unfolding offPeakAmount
+    off-small = where-made 4000000000 (eqb (flagOf body) 1 && not (peakHour terms h)) _ off-of
 
-  module _ (peak days : ℕ) (few : days ≤ 30) where
-    on-of : natAbs (onPeakOf (dayUpward body peak) (hubPrice body) (dayTier body peak) days (tierAt body h) (hourPrice body h)) ≤ 7200000000
-    on-of = on-peak-small _ (most-small body sound peak) _ (dayTier body peak) days (tierAt body h) _ (hub-small body sound) few price-small
+    module _ (kept : TermsKept terms) where
+      on-of : natAbs (onPeakOf terms (dayUpward terms body) (hubPrice body) (dayTier terms body) (tierAt body h) (hourPrice body h)) ≤ 7200000000
+      on-of = on-peak-small terms kept _ (most-small body sound terms) _ (dayTier terms body) (tierAt body h) _ (hub-small body sound) price-small
 
-    pub on-small : natAbs (onPeakAmount body peak days h) ≤ 7200000000
-    unfolding onPeakAmount
-    on-small = where-made 7200000000 (eqb (flagOf body) 1 && peakHour peak h) _ on-of
+      pub on-small : natAbs (onPeakAmount terms body h) ≤ 7200000000
+      unfolding onPeakAmount
+      on-small = where-made 7200000000 (eqb (flagOf body) 1 && peakHour terms h) _ on-of
 
-    -- an hour has an on-peak or an off-peak amount, never both
-    one-of : (f t : Bool) (on off : ℤ) → natAbs on ≤ 7200000000 → natAbs off ≤ 4000000000
-        → natAbs (cond (f && t) on (pos 0) +ℤ cond (f && not t) off (pos 0)) ≤ 7200000000
-    one-of true true on off p q = omega (arith, abs-add on (pos 0))
-    one-of true false on off p q = omega (arith, abs-add (pos 0) off)
-    one-of false t on off p q = zero-le
+      -- an hour has an on-peak or an off-peak amount, never both
+      one-of : (f t : Bool) (on off : ℤ) → natAbs on ≤ 7200000000 → natAbs off ≤ 4000000000
+          → natAbs (cond (f && t) on (pos 0) +ℤ cond (f && not t) off (pos 0)) ≤ 7200000000
+      one-of true true on off p q = omega (arith, abs-add on (pos 0))
+      one-of true false on off p q = omega (arith, abs-add (pos 0) off)
+      one-of false t on off p q = zero-le
 
-    upward-small : natAbs (onPeakAmount body peak days h +ℤ offPeakAmount body peak h) ≤ 7200000000
-    unfolding onPeakAmount offPeakAmount
-    upward-small = one-of (eqb (flagOf body) 1) (peakHour peak h) _ _ on-of off-of
+      upward-small : natAbs (onPeakAmount terms body h +ℤ offPeakAmount terms body h) ≤ 7200000000
+      unfolding onPeakAmount offPeakAmount
+      upward-small = one-of (eqb (flagOf body) 1) (peakHour terms h) _ _ on-of off-of
 
-    pub amount-small : natAbs (amountAt body peak days h) ≤ 10000000000
-    unfolding amountAt
-    amount-small = omega (arith, abs-add (onPeakAmount body peak days h +ℤ offPeakAmount body peak h) (downwardAmount body h), upward-small, down-small)
+      pub amount-small : natAbs (amountAt terms body h) ≤ mostAmount
+      unfolding amountAt
+      amount-small =
+          omega (arith, abs-add (onPeakAmount terms body h +ℤ offPeakAmount terms body h) (downwardAmount terms body h), upward-small, down-small)
+
+-- the amounts that an hour was found to have
+module _ (terms : Terms) (body : List ℕ) (h : ℕ) (amounts : Amounts) (is : amounts ≡ amountsOf terms body h) where
+  pub on-is : amounts .on .0 ≡ onPeakAmount terms body h
+  unfolding amountsOf
+  on-is = ap (λ a. a .on .0) is
+
+  pub off-is : amounts .off .0 ≡ offPeakAmount terms body h
+  unfolding amountsOf
+  off-is = ap (λ a. a .off .0) is
+
+  pub down-is : amounts .down .0 ≡ downwardAmount terms body h
+  unfolding amountsOf
+  down-is = ap (λ a. a .down .0) is
+
+  -- A of them is the hour's
+  pub amount-is : (a : ℤ) → a ≡ (amounts .on .0 +ℤ amounts .off .0) +ℤ amounts .down .0 → a ≡ amountAt terms body h
+  unfolding amountAt
+  amount-is a e = e ∙ rw (on-is, off-is, down-is)
+
+  pub amounts-ranged : Sound plainPoints body → h < dayHours → TermsKept terms → AmountsRanged amounts
+  amounts-ranged sound below kept =
+      record {
+        on = rw on-is (omega (arith, on-small body sound h below terms kept));
+        off = rw off-is (omega (arith, off-small body sound h below terms));
+        down = rw down-is (omega (arith, down-small body sound h below terms));
+      }

@@ -6,64 +6,60 @@ use mathlib.Core.Path.{_≡_, refl, sym, ap, _∙_}
 use lib.Dec.{leb}
 use lib.IntN.{ℤ, pos, natAbs}
 use borrow.Author.Tests.{eq-eqb, ne-eqb}
+use Rattle.limits.specs.Ranges.{mostMarketPrice, plainPoints}
 use Rattle.body.specs.Layout.{flagOf, hourAt, intervalsAt, mecAt}
-use Rattle.body.specs.Sound.{Sound}
+use Rattle.body.specs.Kept.{Sound}
 use Rattle.price.proofs.Answers.{price-within}
 use Rattle.surcharge.specs.declared.Day.{Day}
+use Rattle.surcharge.specs.declared.Terms.{Terms}
 use Rattle.amounts.specs.declared.Amounts.{Amounts}
-use Rattle.surcharge.specs.Surcharge.{peakHour, onPeakOf, offPeakOf, downwardOf, needed}
-use Rattle.amounts.specs.Amounts.{downwardFrom, upwardAt, tierAt, dayTier, dayUpward, hubPrice, hourPrice, priceFrom, priceIf, dayOf, onPeakAmount, offPeakAmount, downwardAmount, amountsOf}
+use Rattle.surcharge.specs.Surcharge.{peakHour, onPeakOf, offPeakOf, downwardOf, needsPrice}
+use Rattle.amounts.specs.Amounts.{downwardFrom, upwardAt, tierAt, dayTier, dayUpward, hubPrice, hourPrice, priceFrom, priceIf, dayFacts}
+use Rattle.amounts.specs.Amounts.{onPeakAmount, offPeakAmount, downwardAmount, amountsOf}
 use Rattle.surcharge.specs.Ranges.{DayRanged}
 use Rattle.amounts.specs.Ranges.{PairsRanged}
 use Rattle.surcharge.proofs.Unneeded.{on-unneeded, off-unneeded}
 use Rattle.amounts.proofs.Hours.{most-small, hub-small}
 
 -- the price where it is needed, in range
-pub price-if-small : (t : Bool) (body : List ℕ) (load from : ℕ) → PairsRanged body load from → natAbs (priceIf t body from) ≤ 20000000
+pub price-if-small : (t : Bool) (body : List ℕ) (load from : ℕ) → PairsRanged body load from → natAbs (priceIf t body from) ≤ mostMarketPrice
 unfolding priceIf priceFrom
 price-if-small true body load from r = rw (← r .load-is) (price-within _ _ (r .ranged))
 price-if-small false body load from r = zero-le
 
 -- ---- the facts of the day
 
--- they hold the persistent days that were given
-pub days-kept : (peak days : ℕ) (body : List ℕ) (day : Day) → day ≡ dayOf peak days body → day .days ≡ days
-unfolding dayOf
-days-kept peak days body day is = ap (λ d. d .days) is
-
-pub day-of-its-days : (peak days : ℕ) (body : List ℕ) (day : Day) → day ≡ dayOf peak days body → day ≡ dayOf peak (day .days) body
-day-of-its-days peak days body day is = is ∙ ap (λ d. dayOf peak d body) (sym (days-kept peak days body day is))
-
-module _ (peak : ℕ) (day : Day) (body : List ℕ) (is : day ≡ dayOf peak (day .days) body) where
-  most-is : day .most .0 ≡ dayUpward body peak
-  unfolding dayOf
+module _ (terms : Terms) (day : Day) (body : List ℕ) (is : day ≡ dayFacts terms body) where
+  most-is : day .most .0 ≡ dayUpward terms body
+  unfolding dayFacts
   most-is = ap (λ d. d .most .0) is
 
   hub-is : day .hub .0 ≡ hubPrice body
-  unfolding dayOf
+  unfolding dayFacts
   hub-is = ap (λ d. d .hub .0) is
 
-  pub tier-is : day .tier ≡ dayTier body peak
-  unfolding dayOf
+  pub tier-is : day .tier ≡ dayTier terms body
+  unfolding dayFacts
   tier-is = ap (λ d. d .tier) is
 
-  pub day-ranged : Sound 32 body → day .days ≤ 30 → DayRanged day
-  day-ranged sound few = record { most = rw most-is (most-small body sound peak); hub = rw hub-is (hub-small body sound); days = few }
+  pub day-ranged : Sound plainPoints body → DayRanged day
+  day-ranged sound = record { most = rw most-is (most-small body sound terms); hub = rw hub-is (hub-small body sound) }
 
   -- the on-peak amount with the price that was used is the one with the hour's price
-  pub on-is : (h : ℕ) (t : Bool) → t ≡ needed 1 true (day .tier) (tierAt body h)
-      → onPeakOf (day .most .0) (day .hub .0) (day .tier) (day .days) (tierAt body h) (priceIf t body (intervalsAt body h))
-      ≡ onPeakOf (dayUpward body peak) (hubPrice body) (dayTier body peak) (day .days) (tierAt body h) (hourPrice body h)
+  pub on-is : (h : ℕ) (t : Bool) → t ≡ needsPrice 1 true (day .tier) (tierAt body h)
+      → onPeakOf terms (day .most .0) (day .hub .0) (day .tier) (tierAt body h) (priceIf t body (intervalsAt body h))
+      ≡ onPeakOf terms (dayUpward terms body) (hubPrice body) (dayTier terms body) (tierAt body h) (hourPrice body h)
   unfolding priceIf
   on-is h true e = rw (most-is, hub-is, tier-is)
   on-is h false e =
-      on-unneeded (day .most .0) (day .hub .0) (day .tier) (day .days) (tierAt body h) (pos 0) (hourPrice body h) (sym e) ∙ rw (most-is, hub-is, tier-is)
+      on-unneeded terms (day .most .0) (day .hub .0) (day .tier) (tierAt body h) (pos 0) (hourPrice body h) (sym e) ∙ rw (most-is, hub-is, tier-is)
 
-pub off-is : (body : List ℕ) (h : ℕ) (t : Bool) → t ≡ leb 2 (tierAt body h)
-    → offPeakOf (upwardAt body h) (tierAt body h) (priceIf t body (intervalsAt body h)) ≡ offPeakOf (upwardAt body h) (tierAt body h) (hourPrice body h)
+pub off-is : (terms : Terms) (body : List ℕ) (h : ℕ) (t : Bool) → t ≡ leb 2 (tierAt body h)
+    → offPeakOf terms (upwardAt body h) (tierAt body h) (priceIf t body (intervalsAt body h))
+    ≡ offPeakOf terms (upwardAt body h) (tierAt body h) (hourPrice body h)
 unfolding priceIf
-off-is body h true e = refl
-off-is body h false e = off-unneeded (upwardAt body h) (tierAt body h) (pos 0) (hourPrice body h) (sym e)
+off-is terms body h true e = refl
+off-is terms body h false e = off-unneeded terms (upwardAt body h) (tierAt body h) (pos 0) (hourPrice body h) (sym e)
 
 -- ---- by flag and peak hour
 
@@ -73,20 +69,22 @@ made on off down = record { on = record { 0 = on }; off = record { 0 = off }; do
 pub same : {a a′ b b′ c c′ : ℤ} → a ≡ a′ → b ≡ b′ → c ≡ c′ → made a b c ≡ made a′ b′ c′
 same e f g = rw (e, f, g)
 
-module _ (peak days : ℕ) (body : List ℕ) (h : ℕ) where
-  pub without-flag : (flagOf body ≡ 1 → ⊥) → made (pos 0) (pos 0) (pos 0) ≡ amountsOf peak days body h
+module _ (terms : Terms) (body : List ℕ) (h : ℕ) where
+  pub without-flag : (flagOf body ≡ 1 → ⊥) → made (pos 0) (pos 0) (pos 0) ≡ amountsOf terms body h
   unfolding amountsOf onPeakAmount offPeakAmount downwardAmount
   without-flag e = rw (ne-eqb (flagOf body) 1 e)
 
   module _ (flag : flagOf body ≡ 1) where
-    pub in-peak : peakHour peak h ≡ true
-        → made (onPeakOf (dayUpward body peak) (hubPrice body) (dayTier body peak) days (tierAt body h) (hourPrice body h)) (pos 0) (downwardOf (downwardFrom body (hourAt body h)) (mecAt body h))
-        ≡ amountsOf peak days body h
+    pub in-peak : peakHour terms h ≡ true
+        → made (onPeakOf terms (dayUpward terms body) (hubPrice body) (dayTier terms body) (tierAt body h) (hourPrice body h)) (pos 0)
+        (downwardOf terms (downwardFrom body (hourAt body h)) (mecAt body h))
+        ≡ amountsOf terms body h
     unfolding amountsOf onPeakAmount offPeakAmount downwardAmount
     in-peak e = rw (eq-eqb (flagOf body) 1 flag, e)
 
-    pub outside-peak : peakHour peak h ≡ false
-        → made (pos 0) (offPeakOf (upwardAt body h) (tierAt body h) (hourPrice body h)) (downwardOf (downwardFrom body (hourAt body h)) (mecAt body h))
-        ≡ amountsOf peak days body h
+    pub outside-peak : peakHour terms h ≡ false
+        → made (pos 0) (offPeakOf terms (upwardAt body h) (tierAt body h) (hourPrice body h))
+        (downwardOf terms (downwardFrom body (hourAt body h)) (mecAt body h))
+        ≡ amountsOf terms body h
     unfolding amountsOf onPeakAmount offPeakAmount downwardAmount
     outside-peak e = rw (eq-eqb (flagOf body) 1 flag, e)

@@ -10,14 +10,16 @@ use lib.IntN.{natAbs}
 use lib.ListN.{take, drop}
 use lib.Signed.{ltZ}
 use Rattle.words.proofs.Part.{word-part}
+use Rattle.limits.specs.Ranges.{dayHours, mostHubPrice, mostUpward, plainPoints}
 use Rattle.body.specs.Layout.{hourAt, intervalsAt, pointsOf, quantityAt, priceAt, hubPriceA, hubPriceB}
-use Rattle.body.specs.Sound.{Sound}
-use Rattle.body.proofs.Facts.{hour-inside}
+use Rattle.body.specs.Kept.{Sound}
+use Rattle.body.proofs.Kept.{always, hour-inside}
 use Rattle.price.specs.Price.{quantityOf, priceOf}
 use Rattle.price.specs.Ranged.{Ranged}
+use Rattle.surcharge.specs.declared.Terms.{Terms}
 use Rattle.surcharge.specs.Surcharge.{peakHour}
 use Rattle.surcharge.proofs.Sizes.{pick}
-use Rattle.amounts.specs.Amounts.{highest, upwardFrom, upwardAt, tierAt, hourOf, hubPrice}
+use Rattle.amounts.specs.Amounts.{highest, upwardFrom, upwardAt, tierAt, hourFacts, hubPrice}
 use Rattle.amounts.specs.Ranges.{HourRanged, PairsRanged}
 use Rattle.amounts.proofs.Quantities.{upward-small}
 
@@ -28,33 +30,34 @@ count : (m : ℕ) (t : Bool) (a : ℕ) → a ≤ m → cond t a 0 ≤ m
 count m true a h = h
 count m false a h = zero-le
 
-highest-small : (m peak : ℕ) (numbers : ℕ → ℕ) (n : ℕ) → ((h : ℕ) → h < n → numbers h ≤ m) → highest peak numbers n ≤ m
+highest-small : (m : ℕ) (terms : Terms) (numbers : ℕ → ℕ) (n : ℕ) → ((h : ℕ) → h < n → numbers h ≤ m) → highest terms numbers n ≤ m
 unfolding highest
-highest-small m peak numbers zero each = zero-le
-highest-small m peak numbers (suc n) each =
-    below-max m (highest peak numbers n) (cond (peakHour peak n) (numbers n) 0)
-    (highest-small m peak numbers n (λ h p. each h (omega arith)))
-    (count m (peakHour peak n) (numbers n) (each n (omega arith)))
+highest-small m terms numbers zero each = zero-le
+highest-small m terms numbers (suc n) each =
+    below-max m (highest terms numbers n) (cond (peakHour terms n) (numbers n) 0)
+    (highest-small m terms numbers n (λ h p. each h (omega arith)))
+    (count m (peakHour terms n) (numbers n) (each n (omega arith)))
 
-pub highest-more : (peak : ℕ) (numbers : ℕ → ℕ) (h : ℕ) → highest peak numbers (h + 1) ≡ max (highest peak numbers h) (cond (peakHour peak h) (numbers h) 0)
+pub highest-more : (terms : Terms) (numbers : ℕ → ℕ) (h : ℕ) → highest terms numbers (h + 1)
+    ≡ max (highest terms numbers h) (cond (peakHour terms h) (numbers h) 0)
 unfolding highest
-highest-more peak numbers h = rw (add-one h)
+highest-more terms numbers h = rw (add-one h)
 
 -- an hour that counts, and one that does not
-pub hour-upward : (t : Bool) (body : List ℕ) (at : ℕ) → hourOf t body at .upward .0 ≡ cond t (upwardFrom body at) 0
-unfolding hourOf
+pub hour-upward : (t : Bool) (body : List ℕ) (at : ℕ) → hourFacts t body at .upward .0 ≡ cond t (upwardFrom body at) 0
+unfolding hourFacts
 hour-upward true body at = refl
 hour-upward false body at = refl
 
-pub hour-tier : (t : Bool) (body : List ℕ) (h : ℕ) → hourOf t body (hourAt body h) .tier ≡ cond t (tierAt body h) 0
-unfolding hourOf tierAt
+pub hour-tier : (t : Bool) (body : List ℕ) (h : ℕ) → hourFacts t body (hourAt body h) .tier ≡ cond t (tierAt body h) 0
+unfolding hourFacts tierAt
 hour-tier true body h = refl
 hour-tier false body h = refl
 
-module _ (body : List ℕ) (sound : Sound 32 body) where
-  module _ (h : ℕ) (below : h < 24) where
+module _ (body : List ℕ) (sound : Sound plainPoints body) where
+  module _ (h : ℕ) (below : h < dayHours) where
     pub hour-ranged : HourRanged body (hourAt body h)
-    hour-ranged = record { room = omega (arith, hour-inside 32 body sound h below); deficiency = λ i p. sound .deficiency h i below p }
+    hour-ranged = record { room = omega (arith, hour-inside plainPoints body sound h below); deficiency = λ i p. sound .deficiency h i below p always }
 
     part : List ℕ
     part = take (4 * (24 * pointsOf body)) (drop (4 * intervalsAt body h) body)
@@ -70,19 +73,19 @@ module _ (body : List ℕ) (sound : Sound 32 body) where
     ranged : Ranged part (12 * pointsOf body)
     ranged =
         record {
-          quantity = λ i p. rw (quantity-is i p) (sound .quantity h i below p);
-          price = λ i p. rw (price-is i p) (sound .price h i below p);
+          quantity = λ i p. rw (quantity-is i p) (sound .quantity h i below p always);
+          price = λ i p. rw (price-is i p) (sound .price h i below p always);
         }
 
     pub pairs-ranged : PairsRanged body (pointsOf body) (intervalsAt body h)
     unfolding part
     pairs-ranged =
-        record { load-is = refl; few = sound .points .1; room = omega (arith, hour-inside 32 body sound h below); ranged = ranged }
+        record { load-is = refl; few = sound .points always .1; room = omega (arith, hour-inside plainPoints body sound h below); ranged = ranged }
 
   -- M is at most 10,000 MW
-  pub most-small : (peak : ℕ) → highest peak (upwardAt body) 24 ≤ 10000000
-  most-small peak = highest-small 10000000 peak (upwardAt body) 24 (λ h p. upward-small body (hourAt body h) (hour-ranged h p))
+  pub most-small : (terms : Terms) → highest terms (upwardAt body) dayHours ≤ mostUpward
+  most-small terms = highest-small mostUpward terms (upwardAt body) dayHours (λ h p. upward-small body (hourAt body h) (hour-ranged h p))
 
-  pub hub-small : natAbs (hubPrice body) ≤ 200000
+  pub hub-small : natAbs (hubPrice body) ≤ mostHubPrice
   unfolding hubPrice
-  hub-small = pick 200000 (ltZ (hubPriceA body) (hubPriceB body)) _ _ (sound .hub-b) (sound .hub-a)
+  hub-small = pick mostHubPrice (ltZ (hubPriceA body) (hubPriceB body)) _ _ (sound .hub-b always) (sound .hub-a always)

@@ -2,3 +2,4 @@ pub mod Quantities
 pub mod Hours
 pub mod HourAmounts
 pub mod AmountSizes
+pub mod Prices

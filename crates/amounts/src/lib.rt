@@ -1,19 +1,23 @@
-// The amounts of an area's hours, read from its body: the facts of its day, the three amounts of an hour, and whether a needed price is missing.
+// The amounts of an area's hours, read from its body: the facts of its day, the three amounts of an hour, and what a needed price refuses.
 use price::PriceAnswer;
 use surcharge::Day;
+use surcharge::Terms;
 use units::Cents;
 use units::HubPrice;
 use units::MarketPrice;
 use units::Quantity;
+use verdict::Verdict;
 ghost use mathlib.Core.Path.{_≡_};
 ghost use Prim.Native.Nat.{_+_, _*_, _≤_, _<_, max};
+ghost use lib.IntN.{_+ℤ_};
 ghost use lib.ListN.{length};
 ghost use Rattle.words.specs.Word.{wordAt, signedOf};
-ghost use Rattle.body.specs.Layout.{hourAt};
-ghost use Rattle.body.specs.Sound.{Sound};
+ghost use Rattle.limits.specs.Ranges.{plainPoints};
+ghost use Rattle.body.specs.Kept.{Sound};
 ghost use Rattle.surcharge.specs.Surcharge.{downwardOf};
-ghost use Rattle.amounts.specs.Amounts.{upwardFrom, downwardFrom, hourOf, dayOf, amountsOf, dayTier, dayUpward, hubPrice, priceFrom, priceIf, priceMissing};
-ghost use Rattle.amounts.specs.Ranges.{HourRanged, PairsRanged};
+ghost use Rattle.amounts.specs.Amounts.{upwardFrom, downwardFrom, hourFacts, dayFacts, amountsOf, dayTier, dayUpward, hubPrice, priceFrom};
+ghost use Rattle.amounts.specs.Amounts.{priceIf, usableRule, priceRule};
+ghost use Rattle.amounts.specs.Ranges.{HourRanged, PairsRanged, AtHour, AmountsRanged};
 
 // U and the tier of an hour.
 struct Hour {
@@ -52,7 +56,7 @@ fn downward_quantity(body: &[u8], at: usize) -> Quantity
 // U and the tier of the hour that starts at word `at`, where it counts.
 fn hour_facts(counts: bool, body: &[u8], at: usize) -> Hour
     requires { ⌜ HourRanged (now body) at ⌝ }
-    ensures { λ r. ⌜ r ≡ hourOf counts (now (body .entry)) at ⌝ }
+    ensures { λ r. ⌜ r ≡ hourFacts counts (now (body .entry)) at ⌝ }
 {
     if !counts {
         return Hour {
@@ -75,22 +79,22 @@ fn larger(a: u32, b: u32) -> u32
 }
 
 // The highest U and the highest tier of the peak hours.
-fn highest_hour(peak: u32, body: &[u8]) -> Hour
-    requires { ⌜ Sound 32 (now body) ⌝ }
-    ensures { λ r. ⌜ (r .upward .0 ≡ dayUpward (now (body .entry)) peak) × (r .tier ≡ dayTier (now (body .entry)) peak) ⌝ }
+fn highest_hour(terms: Terms, body: &[u8]) -> Hour
+    requires { ⌜ Sound plainPoints (now body) ⌝ }
+    ensures { λ r. ⌜ (r .upward .0 ≡ dayUpward terms (now (body .entry))) × (r .tier ≡ dayTier terms (now (body .entry))) ⌝ }
 {
     let load = words::word(body, 5) as usize;
     let count = words::word(body, 6) as usize;
     let mut most: u32 = 0;
     let mut tier: u32 = 0;
-    let mut at = 7 + count;
+    let mut at = body::first_hour(load, count);
     let mut h: usize = 0;
-    while h < 24 {
-        let facts = hour_facts(surcharge::peak_hour(peak, h), body, at);
+    while h < limits::DAY_HOURS {
+        let facts = hour_facts(surcharge::peak_hour(terms, h), body, at);
         let upward = facts.upward;
         most = larger(most, upward.0);
         tier = larger(tier, facts.tier);
-        at += 8 + 24 * load + count;
+        at = body::next_hour(load, count, h, at);
         h += 1;
     }
     Hour {
@@ -108,21 +112,16 @@ fn hub_price(body: &[u8]) -> HubPrice
     surcharge::greater_price(a, b)
 }
 
-// The facts of an area's day, with its persistent days as a given number.
-pub fn day_facts(peak: u32, days: u32, body: &[u8]) -> Day
-    requires { ⌜ Sound 32 (now body) ⌝ }
-    ensures { λ r. ⌜ r ≡ dayOf peak days (now (body .entry)) ⌝ }
+// The facts of an area's day under its terms.
+pub fn day_facts(terms: Terms, body: &[u8]) -> Day
+    requires { ⌜ Sound plainPoints (now body) ⌝ }
+    ensures { λ r. ⌜ r ≡ dayFacts terms (now (body .entry)) ⌝ }
 {
-    let highest = highest_hour(peak, body);
+    let highest = highest_hour(terms, body);
     let most = highest.upward;
     let tier = highest.tier;
     let hub = hub_price(body);
-    Day {
-        tier,
-        most,
-        hub,
-        days,
-    }
+    Day { tier, most, hub }
 }
 
 // The price of an hour's interval pairs, which start at word `from`: that part of the body, uncopied.
@@ -135,30 +134,29 @@ fn hour_price(body: &[u8], load: usize, from: usize) -> PriceAnswer
     price::average_price(&body[start..end], 12 * load)
 }
 
-// That price where it is needed, and 0 where no amount asks for it.
-fn price_if(needed: bool, body: &[u8], load: usize, from: usize) -> MarketPrice
+// That price where it is asked for, and 0 where no amount asks for it.
+fn price_if(asked: bool, body: &[u8], load: usize, from: usize) -> MarketPrice
     requires { ⌜ PairsRanged (now body) load from ⌝ }
-    ensures { λ r. ⌜ r .0 ≡ priceIf needed (now (body .entry)) from ⌝ }
+    ensures { λ r. ⌜ r .0 ≡ priceIf asked (now (body .entry)) from ⌝ }
 {
-    if !needed {
+    if !asked {
         return MarketPrice(0);
     }
     MarketPrice(price::price_of(hour_price(body, load, from)))
 }
 
-fn down_amount(body: &[u8], at: usize) -> Cents
+fn down_amount(terms: Terms, body: &[u8], at: usize) -> Cents
     requires { ⌜ HourRanged (now body) at ⌝ }
-    ensures { λ r. ⌜ r .0 ≡ downwardOf (downwardFrom (now (body .entry)) at) (signedOf (wordAt (now (body .entry)) (at + 7))) ⌝ }
+    ensures { λ r. ⌜ r .0 ≡ downwardOf terms (downwardFrom (now (body .entry)) at) (signedOf (wordAt (now (body .entry)) (at + 7))) ⌝ }
 {
     let mec = MarketPrice(words::signed(words::word(body, at + 7)));
-    surcharge::downward(downward_quantity(body, at), mec)
+    surcharge::downward(terms, downward_quantity(body, at), mec)
 }
 
 // The three amounts of hour h, which starts at word `at`. `day` has the facts of the area's day.
-pub fn hour_amounts(peak: u32, day: Day, body: &[u8], h: usize, at: usize) -> Amounts
-    requires { ⌜ (Sound 32 (now body)) × ((h < 24) × (at ≡ hourAt (now body) h)) ⌝ }
-    requires { ⌜ (day ≡ dayOf peak (day .days) (now body)) × (day .days ≤ 30) ⌝ }
-    ensures { λ r. ⌜ r ≡ amountsOf peak (day .days) (now (body .entry)) h ⌝ }
+pub fn hour_amounts(terms: Terms, day: Day, body: &[u8], h: usize, at: usize) -> Amounts
+    requires { ⌜ AtHour terms day (now body) h at ⌝ }
+    ensures { λ r. ⌜ r ≡ amountsOf terms (now (body .entry)) h ⌝ }
 {
     let flag = words::word(body, 1);
     if flag != 1 {
@@ -168,11 +166,11 @@ pub fn hour_amounts(peak: u32, day: Day, body: &[u8], h: usize, at: usize) -> Am
             down: Cents(0),
         };
     }
-    let down = down_amount(body, at);
+    let down = down_amount(terms, body, at);
     let facts = hour_facts(true, body, at);
     let upward = facts.upward;
     let tier = facts.tier;
-    let in_peak = surcharge::peak_hour(peak, h);
+    let in_peak = surcharge::peak_hour(terms, h);
     let load = words::word(body, 5) as usize;
     let price = price_if(
         surcharge::price_needed(flag, in_peak, day.tier, tier),
@@ -182,34 +180,61 @@ pub fn hour_amounts(peak: u32, day: Day, body: &[u8], h: usize, at: usize) -> Am
     );
     if in_peak {
         return Amounts {
-            on: surcharge::on_peak(day, tier, price),
+            on: surcharge::on_peak(terms, day, tier, price),
             off: Cents(0),
             down,
         };
     }
     Amounts {
         on: Cents(0),
-        off: surcharge::off_peak(upward, tier, price),
+        off: surcharge::off_peak(terms, upward, tier, price),
         down,
     }
 }
 
-// Whether the price of hour h is needed and has no quantity under it.
-pub fn price_missing(peak: u32, day: Day, body: &[u8], h: usize, at: usize) -> bool
-    requires { ⌜ (Sound 32 (now body)) × ((h < 24) × (at ≡ hourAt (now body) h)) ⌝ }
-    requires { ⌜ day ≡ dayOf peak (day .days) (now body) ⌝ }
-    ensures { λ r. ⌜ r ≡ priceMissing (now (body .entry)) peak h ⌝ }
+// A, the hour's three amounts added.
+pub fn amount_of(amounts: Amounts) -> Cents
+    requires { ⌜ AmountsRanged amounts ⌝ }
+    ensures { λ r. ⌜ r .0 ≡ (amounts .on .0 +ℤ amounts .off .0) +ℤ amounts .down .0 ⌝ }
+{
+    let on = amounts.on;
+    let off = amounts.off;
+    let down = amounts.down;
+    on.plus(off).plus(down)
+}
+
+// Whether a needed price can be settled with. Its first interval word is at `place` of the file.
+fn usable(place: usize, answer: PriceAnswer) -> Verdict
+    ensures { λ r. ⌜ r ≡ usableRule place answer ⌝ }
+{
+    if price::number(answer) == 11 {
+        return Verdict::PriceWithoutQuantity { place };
+    }
+    Verdict::Accepted
+}
+
+// What the price of hour h refuses, where it is needed, in the body that starts at word `start` of the file.
+pub fn check_price(
+    terms: Terms,
+    day: Day,
+    start: usize,
+    body: &[u8],
+    h: usize,
+    at: usize,
+) -> Verdict
+    requires { ⌜ (AtHour terms day (now body) h at) × (start < 4294967296) ⌝ }
+    ensures { λ r. ⌜ r ≡ priceRule terms start (now (body .entry)) h ⌝ }
 {
     let facts = hour_facts(true, body, at);
     let needed = surcharge::price_needed(
         words::word(body, 1),
-        surcharge::peak_hour(peak, h),
+        surcharge::peak_hour(terms, h),
         day.tier,
         facts.tier,
     );
     if !needed {
-        return false;
+        return Verdict::Accepted;
     }
     let load = words::word(body, 5) as usize;
-    price::number(hour_price(body, load, at + 8)) == 11
+    usable(start + (at + 8), hour_price(body, load, at + 8))
 }

@@ -4,6 +4,7 @@ use mathlib.Core.Path.{_≡_}
 use native.Mathlib.Omega.{arith}
 use native.Mathlib.Numerals.{add-one}
 use native.Mathlib.Nat.{add-zero, zero-mul, suc-mul, mul-le-mul-right}
+use Rattle.limits.specs.Ranges.{dayHours}
 use Rattle.hour.specs.Layout.{hourWords}
 use Rattle.body.specs.Layout.{bodyWords, hourStart}
 
@@ -17,6 +18,6 @@ module _ (points coordinators h : ℕ) where
   hour-next = rw (add-one h, suc-mul h (hourWords points coordinators)) (omega arith)
 
   -- an hour lies within the body
-  pub hour-room : h < 24 → hourStart points coordinators h + hourWords points coordinators ≤ bodyWords points coordinators
+  pub hour-room : h < dayHours → hourStart points coordinators h + hourWords points coordinators ≤ bodyWords points coordinators
   unfolding hourStart
   hour-room p = omega (arith, rw suc-mul at (mul-le-mul-right (hourWords points coordinators) p))

@@ -1,3 +1,3 @@
 pub mod Rules
 pub mod HourPlaces
-pub mod Facts
+pub mod Kept

@@ -3,13 +3,15 @@ use Prim.Native.Nat.{ℕ, zero, suc, _+_, _*_}
 use mathlib.Core.List.{List}
 use lib.IntN.{ℤ}
 use Rattle.words.specs.Word.{wordAt, signedOf}
+use Rattle.words.specs.Bytes.{wordsFrom}
+use Rattle.limits.specs.Ranges.{dayHours}
 use Rattle.hour.specs.Layout.{hourWords}
 
 -- ---- sizes
 
 -- "Body words = 7 + K + 24(8 + 24L + K)"
 abbrev pub bodyWords : ℕ → ℕ → ℕ
-bodyWords points coordinators = 7 + coordinators + 24 * hourWords points coordinators
+bodyWords points coordinators = 7 + coordinators + dayHours * hourWords points coordinators
 
 -- the first word of hour h, from 0: the hour ending h + 1
 unfoldable pub hourStart : ℕ → ℕ → ℕ → ℕ
@@ -85,3 +87,7 @@ module _ (body : List ℕ) where
 
   abbrev pub demandAt : ℕ → ℕ → ℕ
   demandAt h i = wordAt body (demandsAt h + i)
+
+  -- the demands of an hour, one for each coordinator
+  abbrev pub demandsOf : ℕ → List ℕ
+  demandsOf h = wordsFrom body (demandsAt h) coordinatorsOf

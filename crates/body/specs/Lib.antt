@@ -1,3 +1,3 @@
 pub mod Layout
 pub mod Check
-pub mod Sound
+pub mod Kept

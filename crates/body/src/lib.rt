@@ -2,10 +2,12 @@
 use limits::Limits;
 use verdict::Verdict;
 ghost use mathlib.Core.Path.{_≡_};
-ghost use Prim.Native.Nat.{_+_, _*_, _/_, _≤_, _<_};
+ghost use Prim.Native.Nat.{_+_, _*_, _/_, _≤_, _<_, _^_};
 ghost use lib.ListN.{length};
-ghost use Rattle.body.specs.Layout.{bodyWords};
-ghost use Rattle.body.specs.Check.{headRule, mostCoordinators, countRule, coordinatorRule, coordinatorsRule, hoursRule, headOf, frontRule, bodyRule};
+ghost use Rattle.hour.specs.Layout.{hourWords};
+ghost use Rattle.body.specs.Layout.{bodyWords, hourStart};
+ghost use Rattle.body.specs.Check.{bodyHeadRule, mostOfKind, coordinatorCountRule, coordinatorRule, coordinatorsRule, hoursRule, bodyHeadOf};
+ghost use Rattle.body.specs.Check.{frontRule, bodyRule};
 
 // The first six words of the head, the hub prices A and B by their magnitude.
 fn head_words(
@@ -20,7 +22,7 @@ fn head_words(
     load: u32,
 ) -> Verdict
     requires { ⌜ (ciso ≤ 1) × (start < 4294967296) ⌝ }
-    ensures { λ r. ⌜ r ≡ headRule points ciso start kind flag days a b load ⌝ }
+    ensures { λ r. ⌜ r ≡ bodyHeadRule points ciso start kind flag days a b load ⌝ }
 {
     if 1 < kind {
         return Verdict::BadBodyHead { word: start };
@@ -31,13 +33,13 @@ fn head_words(
     if 1 < flag {
         return Verdict::BadBodyHead { word: start + 1 };
     }
-    if 30 < days {
+    if limits::MOST_DAYS < days {
         return Verdict::BadBodyHead { word: start + 2 };
     }
-    if 200000 < a {
+    if limits::MOST_HUB_PRICE < a {
         return Verdict::BadBodyHead { word: start + 3 };
     }
-    if 200000 < b {
+    if limits::MOST_HUB_PRICE < b {
         return Verdict::BadBodyHead { word: start + 4 };
     }
     if load < 1 {
@@ -49,19 +51,19 @@ fn head_words(
     Verdict::Accepted
 }
 
-fn most_coordinators(kind: u32) -> u32
-    ensures { λ r. ⌜ r ≡ mostCoordinators kind ⌝ }
+fn most_of_kind(kind: u32) -> usize
+    ensures { λ r. ⌜ r ≡ mostOfKind kind ⌝ }
 {
     if kind == 0 {
         return 1;
     }
-    64
+    limits::MOST_COORDINATORS
 }
 
 // The word of K.
 fn count(start: usize, size: usize, most: usize, load: usize, count: usize) -> Verdict
     requires { ⌜ (start < 4294967296) × ((load < 4294967296) × (count < 4294967296)) ⌝ }
-    ensures { λ r. ⌜ r ≡ countRule start size most load count ⌝ }
+    ensures { λ r. ⌜ r ≡ coordinatorCountRule start size most load count ⌝ }
 {
     if count < 1 {
         return Verdict::BadBodyHead { word: start + 6 };
@@ -69,7 +71,7 @@ fn count(start: usize, size: usize, most: usize, load: usize, count: usize) -> V
     if most < count {
         return Verdict::BadBodyHead { word: start + 6 };
     }
-    if size != 7 + count + 24 * (8 + 24 * load + count) {
+    if size != 7 + count + limits::DAY_HOURS * (8 + 24 * load + count) {
         return Verdict::BadContents { word: start + 6 };
     }
     Verdict::Accepted
@@ -81,7 +83,7 @@ pub fn coordinator(place: usize, before: u32, number: u32) -> Verdict
     if number <= before {
         return Verdict::BadCoordinator { place };
     }
-    if 2147483647 < number {
+    if limits::LARGEST_NUMBER < number {
         return Verdict::BadCoordinator { place };
     }
     Verdict::Accepted
@@ -105,18 +107,36 @@ fn coordinators(start: usize, body: &[u8], count: usize) -> Verdict
     Verdict::Accepted
 }
 
+// ---- the walk over the hours
+
+// Where the first hour starts.
+pub fn first_hour(load: usize, count: usize) -> usize
+    requires { ⌜ 7 + count < 2 ^ 64 ⌝ }
+    ensures { λ r. ⌜ r ≡ hourStart load count 0 ⌝ }
+{
+    7 + count
+}
+
+// Where the hour behind hour h starts, which starts at word `at`.
+pub fn next_hour(load: usize, count: usize, h: usize, at: usize) -> usize
+    requires { ⌜ (at ≡ hourStart load count h) × (at + hourWords load count < 2 ^ 64) ⌝ }
+    ensures { λ r. ⌜ r ≡ hourStart load count (h + 1) ⌝ }
+{
+    at + (8 + 24 * load + count)
+}
+
 fn hours(start: usize, body: &[u8], load: usize, count: usize) -> Verdict
     requires { ⌜ (start < 4294967296) × (4 * bodyWords load count ≤ length (now body)) ⌝ }
     ensures { λ r. ⌜ r ≡ hoursRule start (now (body .entry)) load count ⌝ }
 {
-    let mut at = 7 + count;
+    let mut at = first_hour(load, count);
     let mut h: usize = 0;
-    while h < 24 {
+    while h < limits::DAY_HOURS {
         let v = hour::check(start, body, load, count, at);
         if verdict::number(v) != 0 {
             return v;
         }
-        at += 8 + 24 * load + count;
+        at = next_hour(load, count, h, at);
         h += 1;
     }
     Verdict::Accepted
@@ -124,7 +144,7 @@ fn hours(start: usize, body: &[u8], load: usize, count: usize) -> Verdict
 
 fn head(points: u32, ciso: u32, start: usize, body: &[u8]) -> Verdict
     requires { ⌜ (ciso ≤ 1) × ((start < 4294967296) × (28 ≤ length (now body))) ⌝ }
-    ensures { λ r. ⌜ r ≡ headOf start (now (body .entry)) points ciso ⌝ }
+    ensures { λ r. ⌜ r ≡ bodyHeadOf start (now (body .entry)) points ciso ⌝ }
 {
     let kind = words::word(body, 0);
     let flag = words::word(body, 1);
@@ -144,7 +164,7 @@ fn front(points: u32, ciso: u32, start: usize, body: &[u8]) -> Verdict
     if verdict::number(first) != 0 {
         return first;
     }
-    let most = most_coordinators(words::word(body, 0)) as usize;
+    let most = most_of_kind(words::word(body, 0));
     let load = words::word(body, 5) as usize;
     let k = words::word(body, 6) as usize;
     count(start, body.len() / 4, most, load, k)

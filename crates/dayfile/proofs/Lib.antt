@@ -1,2 +1,4 @@
 pub mod Entries
 pub mod Facts
+pub mod Lookup
+pub mod Parts

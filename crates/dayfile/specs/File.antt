@@ -1,4 +1,4 @@
--- The layout of a day file: four head words, the contents, the bodies.
+-- The layout of a day file (docs/RULES.md, section 2): four head words, the contents, the bodies.
 use Prim.Native.Nat.{ℕ, zero, suc, _+_, _*_}
 use mathlib.Core.List.{List}
 use lib.ListN.{take, drop}
@@ -6,6 +6,9 @@ use Rattle.words.specs.Word.{wordAt}
 use Rattle.body.specs.Layout.{kindOf}
 
 module _ (file : List ℕ) where
+  abbrev pub editionOf : ℕ
+  editionOf = wordAt file 0
+
   -- the trading day, YYYYMMDD
   abbrev pub dayOf : ℕ
   dayOf = wordAt file 1

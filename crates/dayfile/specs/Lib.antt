@@ -1,3 +1,4 @@
 pub mod File
 pub mod Check
 pub mod Lookup
+pub mod Parts

@@ -6,13 +6,13 @@ ghost use Prim.Native.Nat.{_+_, _*_, _≤_, _<_, _^_};
 ghost use lib.ListN.{length};
 ghost use Rattle.words.specs.Word.{wordAt};
 ghost use Rattle.verdict.specs.Verdict.{numberOf};
-ghost use Rattle.dayfile.specs.File.{startAt, sizeAt, bodyAt};
-ghost use Rattle.dayfile.specs.Check.{headRule, headOf, entryRule, contentsRule, bodiesRule, checkWithin, checkOf};
-ghost use Rattle.dayfile.specs.Lookup.{bodyFrom, lookupOf};
+ghost use Rattle.dayfile.specs.File.{startAt, sizeAt};
+ghost use Rattle.dayfile.specs.Check.{fileHeadRule, fileHeadOf, entryRule, contentsRule, bodiesRule, checkWithin, checkOf};
+ghost use Rattle.dayfile.specs.Lookup.{bodyPart, partFrom, lookupOf, HandsBack};
 
 // The four head words, in a file of `size` words.
 fn head_words(areas: u32, size: usize, edition: u32, day: u32, n: u32, peak: u32) -> Verdict
-    ensures { λ r. ⌜ r ≡ headRule areas size edition day n peak ⌝ }
+    ensures { λ r. ⌜ r ≡ fileHeadRule areas size edition day n peak ⌝ }
 {
     if edition != 1 {
         return Verdict::BadEdition;
@@ -32,7 +32,7 @@ fn head_words(areas: u32, size: usize, edition: u32, day: u32, n: u32, peak: u32
     if peak == 0 {
         return Verdict::Accepted;
     }
-    if peak == 4194240 {
+    if peak == limits::PEAK_WORD {
         return Verdict::Accepted;
     }
     Verdict::BadPeakHours
@@ -41,7 +41,7 @@ fn head_words(areas: u32, size: usize, edition: u32, day: u32, n: u32, peak: u32
 // The head words of a file, at most `areas` areas.
 fn head(areas: u32, file: &[u8]) -> Verdict
     requires { ⌜ 16 ≤ length (now file) ⌝ }
-    ensures { λ r. ⌜ r ≡ headOf areas (now (file .entry)) ⌝ }
+    ensures { λ r. ⌜ r ≡ fileHeadOf areas (now (file .entry)) ⌝ }
 {
     let edition = words::word(file, 0);
     let day = words::word(file, 1);
@@ -61,33 +61,33 @@ fn entry(
     due: usize,
     number: u32,
     start: usize,
-    length: usize,
+    words: usize,
 ) -> Verdict
-    requires { ⌜ (k < n) × ((at < 2 ^ 62) × ((start < 4294967296) × (length < 4294967296))) ⌝ }
-    ensures { λ r. ⌜ r ≡ entryRule most size n k at before due number start length ⌝ }
+    requires { ⌜ (k < n) × ((at < 2 ^ 62) × ((start < 4294967296) × (words < 4294967296))) ⌝ }
+    ensures { λ r. ⌜ r ≡ entryRule most size n k at before due number start words ⌝ }
 {
     if number <= before {
         return Verdict::BadContents { word: at };
     }
-    if 2147483647 < number {
+    if limits::LARGEST_NUMBER < number {
         return Verdict::BadContents { word: at };
     }
     if start != due {
         return Verdict::BadContents { word: at + 1 };
     }
-    if length < 800 {
+    if words < limits::LEAST_BODY_WORDS {
         return Verdict::BadContents { word: at + 2 };
     }
-    if most < length {
+    if most < words {
         return Verdict::BadContents { word: at + 2 };
     }
     if k + 1 == n {
-        if start + length == size {
+        if start + words == size {
             return Verdict::Accepted;
         }
         return Verdict::BadContents { word: at + 2 };
     }
-    if size < start + length {
+    if size < start + words {
         return Verdict::BadContents { word: at + 2 };
     }
     Verdict::Accepted
@@ -106,13 +106,13 @@ fn contents(most: usize, file: &[u8], n: usize) -> Verdict
         let at = 4 + 3 * k;
         let number = words::word(file, at);
         let start = words::word(file, at + 1) as usize;
-        let length = words::word(file, at + 2) as usize;
-        let v = entry(most, size, n, k, at, before, due, number, start, length);
+        let words = words::word(file, at + 2) as usize;
+        let v = entry(most, size, n, k, at, before, due, number, start, words);
         if verdict::number(v) != 0 {
             return v;
         }
         before = number;
-        due = start + length;
+        due = start + words;
         k += 1;
     }
     Verdict::Accepted
@@ -121,7 +121,7 @@ fn contents(most: usize, file: &[u8], n: usize) -> Verdict
 // The bytes of body k, a part of the file.
 pub fn body_at(file: &[u8], k: usize) -> &[u8]
     requires { ⌜ (16 + 12 * k + 12 ≤ length (now file)) × (4 * startAt (now file) k + 4 * sizeAt (now file) k ≤ length (now file)) ⌝ }
-    ensures { λ r. ⌜ now r ≡ bodyAt (now (file .entry)) k ⌝ }
+    ensures { λ r. ⌜ HandsBack (file .entry) (bodyPart (now (file .entry)) k) r ⌝ }
 {
     let at = 4 + 3 * k;
     let from = 4 * (words::word(file, at + 1) as usize);
@@ -149,15 +149,12 @@ fn bodies(limits: Limits, file: &[u8], n: usize) -> Verdict
     Verdict::Accepted
 }
 
-// The check within given limits.
+// The check of a file of 16 bytes or more within given limits.
 fn check_within(limits: Limits, file: &[u8]) -> Verdict
+    requires { ⌜ 16 ≤ length (now file) ⌝ }
     ensures { λ r. ⌜ r ≡ checkWithin limits (now (file .entry)) ⌝ }
 {
-    let most = limits.bytes;
-    if file.len() < 16 {
-        return Verdict::BadLength;
-    }
-    if most < file.len() {
+    if !limits::allows(limits, file.len()) {
         return Verdict::BadLength;
     }
     if file.len() % 4 != 0 {
@@ -175,17 +172,20 @@ fn check_within(limits: Limits, file: &[u8]) -> Verdict
     bodies(limits, file, n)
 }
 
-// The first word of a day file that breaks its rule.
+// The first word of a day file that breaks its rule. The file's first word sets the limits.
 pub fn check(file: &[u8]) -> Verdict
     ensures { λ r. ⌜ r ≡ checkOf (now (file .entry)) ⌝ }
 {
-    check_within(limits::edition_one(), file)
+    if file.len() < 16 {
+        return Verdict::BadLength;
+    }
+    check_within(limits::limits_of(words::word(file, 0)), file)
 }
 
 // The body of an area in an accepted file.
 fn find(file: &[u8], area: u32) -> &[u8]
     requires { ⌜ numberOf (checkOf (now file)) ≡ 0 ⌝ }
-    ensures { λ r. ⌜ now r ≡ bodyFrom (now (file .entry)) area 0 (wordAt (now (file .entry)) 2) ⌝ }
+    ensures { λ r. ⌜ HandsBack (file .entry) (partFrom (now (file .entry)) area 0 (wordAt (now (file .entry)) 2)) r ⌝ }
 {
     let n = words::word(file, 2) as usize;
     let mut k: usize = 0;
@@ -200,7 +200,7 @@ fn find(file: &[u8], area: u32) -> &[u8]
 
 // The bytes of an area's body, a part of the file; an empty part where the number is absent or the check refuses the file.
 pub fn body_of(file: &[u8], area: u32) -> &[u8]
-    ensures { λ r. ⌜ now r ≡ lookupOf (now (file .entry)) area ⌝ }
+    ensures { λ r. ⌜ HandsBack (file .entry) (lookupOf (now (file .entry)) area) r ⌝ }
 {
     let v = check(file);
     if verdict::number(v) != 0 {

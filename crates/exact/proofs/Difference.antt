@@ -3,7 +3,8 @@ use mathlib.Core.Path.{_≡_, refl, sym, ap, _∙_}
 use Prim.Native.Nat.{ℕ, zero, suc, _+_, _*_, _-_, _<_, _≤_}
 use native.Mathlib.Nat.{zero-mul, mul-add}
 use native.Mathlib.Omega.{arith}
-use lib.IntN.{ℤ, pos, negsuc, negℤ, natAbs, subℕ, _+ℤ_, _-ℤ_, _*ℤ_, negℤ-+ℤ, negℤ-negℤ, +ℤ-comm, +ℤ-assoc, +ℤ-invl, +ℤ-invr, +ℤ-negℤ-cancel, *ℤ-comm, +ℤ-idl}
+use lib.IntN.{ℤ, pos, negsuc, negℤ, natAbs, subℕ, _+ℤ_, _-ℤ_, _*ℤ_, negℤ-+ℤ, negℤ-negℤ, +ℤ-comm, +ℤ-assoc, +ℤ-invl}
+use lib.IntN.{+ℤ-invr, +ℤ-negℤ-cancel, *ℤ-comm, +ℤ-idl}
 use Rattle.exact.proofs.Magnitude.{sub-ind}
 
 -- a sum of two steps is the whole step
@@ -45,7 +46,13 @@ mul-sub t a b = sub-ind a b (λ z. pos t *ℤ z ≡ subℕ (t * a) (t * b)) low 
     low h =
         let k = suc (b - suc a) in
         let e : t * b ≡ t * a + t * k = ap (λ n. t * n) (omega arith) ∙ mul-add t a k in
-        rw (← minus-sub (t * a) (t * b), e, ← neg-plus-neg (t * a) (t * k), ← +ℤ-assoc (pos (t * a)) (negℤ (pos (t * a))) (negℤ (pos (t * k))), +ℤ-invr (pos (t * a))) (sym (+ℤ-idl (negℤ (pos (t * k)))))
+        rw (
+          ← minus-sub (t * a) (t * b),
+          e,
+          ← neg-plus-neg (t * a) (t * k),
+          ← +ℤ-assoc (pos (t * a)) (negℤ (pos (t * a))) (negℤ (pos (t * k))),
+          +ℤ-invr (pos (t * a)),
+        ) (sym (+ℤ-idl (negℤ (pos (t * k)))))
 
     high : b ≤ a → pos (t * (a - b)) ≡ subℕ (t * a) (t * b)
     high h =

@@ -5,3 +5,4 @@ pub mod Round
 pub mod Floor
 pub mod Filling
 pub mod Lending
+pub mod Totals

@@ -1,6 +1,6 @@
 -- What the machine holds of a signed number: which numbers fit, and what is read back from the bits.
 use mathlib.Core.Path.{_≡_, _∙_}
-use Prim.Native.Nat.{ℕ, _<_, _≤_, _^_}
+use Prim.Native.Nat.{_<_, _≤_, _^_}
 use native.Mathlib.Nat.{le-refl, le-suc, lt-of-le-of-lt}
 use lib.IntN.{ℤ, pos, negsuc, natAbs}
 use lib.Signed.{mag}

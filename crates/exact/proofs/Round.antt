@@ -1,10 +1,11 @@
 -- The laws of R.
 use mathlib.Core.Path.{_≡_, refl, sym, ap, _∙_}
-use Prim.Native.Nat.{ℕ, zero, suc, _+_, _*_, _-_, _/_, _%_, _<_, _≤_, zero-le}
+use Prim.Native.Nat.{ℕ, zero, suc, _+_, _*_, _/_, _%_, _<_, _≤_, zero-le}
 use lib.Arith.{digits-div}
-use native.Mathlib.Nat.{div-mul-le-self, lt-div-mul-add, mul-comm, mul-zero, div-zero, le-of-suc-le-suc, div-lt-iff-lt-mul, suc-mul, mul-left-comm, le-mul-of-pos-right, zero-lt-suc, div-eq-of-lt-le, div-add-mod', div-le-self, mod-lt}
+use native.Mathlib.Nat.{div-mul-le-self, lt-div-mul-add, mul-comm, mul-zero, div-zero, le-of-suc-le-suc, div-lt-iff-lt-mul, suc-mul, mul-left-comm}
+use native.Mathlib.Nat.{le-mul-of-pos-right, zero-lt-suc, div-eq-of-lt-le, div-add-mod', div-le-self, mod-lt}
 use native.Mathlib.Omega.{arith}
-use lib.IntN.{ℤ, pos, negsuc, negℤ, natAbs, subℕ, _-ℤ_, _*ℤ_, negℤ-negℤ}
+use lib.IntN.{ℤ, pos, negsuc, negℤ, natAbs, _-ℤ_, _*ℤ_, negℤ-negℤ}
 use lib.Signed.{mag, quotZ}
 use mir.Syntax.{Width}
 use mir.Val.{SFits}

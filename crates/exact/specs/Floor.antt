@@ -1,4 +1,4 @@
--- max(0, z) and min(0, z), by which document 01 floors a surcharge and a downward amount.
+-- max(0, z) and min(0, z), by which a surcharge and a downward amount are floored (docs/RULES.md, sections 4 to 6).
 use lib.IntN.{ℤ, pos, negsuc}
 
 -- max(0, z)

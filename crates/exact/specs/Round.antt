@@ -1,4 +1,4 @@
--- R of document 01: rounding to the nearest whole number, halves away from zero, R(-12.5) = -13.
+-- R (docs/RULES.md, section 1): rounding to the nearest whole number, halves away from zero, R(-12.5) = -13.
 use Prim.Native.Nat.{ℕ, suc, _+_, _*_, _/_}
 use lib.IntN.{ℤ, pos, negsuc, negℤ}
 

@@ -1,4 +1,4 @@
-// R of document 01, the whole product of a quantity and a price, and the floors at 0, in 64 bits.
+// R (docs/RULES.md, section 1), the whole product of a quantity and a price, and the floors at 0, in 64 bits.
 // The laws of whole numbers, of lists that are filled and of parts that are lent stand in proofs/.
 ghost use mathlib.Core.Path.{_≡_};
 ghost use Prim.Native.Nat.{_<_};

@@ -1,7 +1,7 @@
 // Runs the figures of document 01 through the public calls, and prints a line for each: what is asked, then what the call
 // gives. Amounts are cents, prices ten-thousandths of a dollar. A day here is one area of kind 0 with one coordinator: an
-// hour is 33 words, the first hour's begin at word 15, and four numbers of the statement. Days are handed on by value, in
-// room for the longest body: lent, each write would cost the check of this program four times as much.
+// hour is 33 words, the first hour's begin at word 15. Days are handed on by value, in room for the longest body: lent,
+// each write would cost the check of this program four times as much.
 use sharing::Row;
 use verdict::Verdict;
 
@@ -18,9 +18,18 @@ const QUANTITY: u8 = 8;
 
 const PRICE: u8 = 9;
 
-const PEAK_HOURS: u32 = 4194240;
+// The words of the longest body of edition 1.
+const LONGEST_BODY: u32 = 2951;
 
-const MISSING: u32 = 2147483648;
+// The bytes of a file of one area, which has the longest body or, as a day here, the shortest.
+const ROOM: usize = 4 * (7 + LONGEST_BODY as usize);
+
+const DAY_BYTES: usize = 4 * (7 + limits::LEAST_BODY_WORDS);
+
+// The numbers of an hour and of an area with one coordinator.
+const HOUR_NUMBERS: usize = statement::AMOUNTS_SHOWN + 1;
+
+const AREA_NUMBERS: usize = limits::DAY_HOURS * HOUR_NUMBERS;
 
 // The word that says -n.
 fn minus(n: u32) -> u32 {
@@ -28,8 +37,8 @@ fn minus(n: u32) -> u32 {
 }
 
 // A word past the end is not written.
-fn put(day: [u8; 11832], word: usize, value: u32) -> [u8; 11832] {
-    if 2958 <= word {
+fn put(day: [u8; ROOM], word: usize, value: u32) -> [u8; ROOM] {
+    if ROOM / 4 <= word {
         return day;
     }
     let at = 4 * word;
@@ -42,11 +51,11 @@ fn put(day: [u8; 11832], word: usize, value: u32) -> [u8; 11832] {
 }
 
 // Hours are counted from 0.
-fn set(day: [u8; 11832], hour: u8, word: u8, value: u32) -> [u8; 11832] {
+fn set(day: [u8; ROOM], hour: u8, word: u8, value: u32) -> [u8; ROOM] {
     put(day, 15 + 33 * (hour as usize) + (word as usize), value)
 }
 
-fn put_head(day: [u8; 11832], peak: u32, words: u32) -> [u8; 11832] {
+fn put_head(day: [u8; ROOM], peak: u32, words: u32) -> [u8; ROOM] {
     let day = put(day, 0, 1);
     let day = put(day, 1, 20260504);
     let day = put(day, 2, 1);
@@ -56,7 +65,7 @@ fn put_head(day: [u8; 11832], peak: u32, words: u32) -> [u8; 11832] {
     put(day, 6, words)
 }
 
-fn put_area(day: [u8; 11832], days: u32, hub_a: u32, hub_b: u32) -> [u8; 11832] {
+fn put_area(day: [u8; ROOM], days: u32, hub_a: u32, hub_b: u32) -> [u8; ROOM] {
     let day = put(day, 8, 1);
     let day = put(day, 9, days);
     let day = put(day, 10, hub_a);
@@ -66,11 +75,15 @@ fn put_area(day: [u8; 11832], days: u32, hub_a: u32, hub_b: u32) -> [u8; 11832] 
     put(day, 14, 12)
 }
 
-fn put_missing(before: [u8; 11832], hour: u8) -> [u8; 11832] {
+fn put_missing(before: [u8; ROOM], hour: u8) -> [u8; ROOM] {
     let mut day = before;
     let mut interval: usize = 0;
     while interval < 12 {
-        let next = put(day, 24 + 33 * (hour as usize) + 2 * interval, MISSING);
+        let next = put(
+            day,
+            24 + 33 * (hour as usize) + 2 * interval,
+            limits::MISSING_PRICE,
+        );
         day = next;
         interval += 1;
     }
@@ -78,10 +91,15 @@ fn put_missing(before: [u8; 11832], hour: u8) -> [u8; 11832] {
 }
 
 // A day without deficiencies, every price missing.
-fn quiet_day(peak: u32, days: u32, hub_a: u32, hub_b: u32) -> [u8; 11832] {
-    let mut day = put_area(put_head([0u8; 11832], peak, 800), days, hub_a, hub_b);
+fn quiet_day(peak: u32, days: u32, hub_a: u32, hub_b: u32) -> [u8; ROOM] {
+    let mut day = put_area(
+        put_head([0u8; ROOM], peak, limits::LEAST_BODY_WORDS as u32),
+        days,
+        hub_a,
+        hub_b,
+    );
     let mut hour: u8 = 0;
-    while hour < 24 {
+    while (hour as usize) < limits::DAY_HOURS {
         let next = put_missing(day, hour);
         day = next;
         hour += 1;
@@ -89,12 +107,12 @@ fn quiet_day(peak: u32, days: u32, hub_a: u32, hub_b: u32) -> [u8; 11832] {
     day
 }
 
-fn put_price(day: [u8; 11832], hour: u8, price: u32) -> [u8; 11832] {
+fn put_price(day: [u8; ROOM], hour: u8, price: u32) -> [u8; ROOM] {
     let day = set(day, hour, QUANTITY, 1000);
     set(day, hour, PRICE, price)
 }
 
-fn put_deficiency(day: [u8; 11832], hour: u8, upward: u32, requirement: u32) -> [u8; 11832] {
+fn put_deficiency(day: [u8; ROOM], hour: u8, upward: u32, requirement: u32) -> [u8; ROOM] {
     let day = set(day, hour, UPWARD, upward);
     set(day, hour, REQUIREMENT, requirement)
 }
@@ -107,17 +125,17 @@ fn show_verdict(answer: Verdict) {
 }
 
 fn show_hour(statement: &[i64], hour: u8) {
-    let from = 4 * (hour as usize);
-    if statement.len() < from + 4 {
+    let from = HOUR_NUMBERS * (hour as usize);
+    if statement.len() < from + HOUR_NUMBERS {
         return;
     }
-    show::numbers(&statement[from..from + 4]);
+    show::numbers(&statement[from..from + HOUR_NUMBERS]);
 }
 
 // The number and place of the settled day, and the hour's on-peak, off-peak and downward amount and charge.
-fn settled(label: &[u8], day: [u8; 11832], hour: u8) {
-    let mut statement = [0i64; 96];
-    let answer = settlement::settle(&day[0..3228], &mut statement);
+fn settled(label: &[u8], day: [u8; ROOM], hour: u8) {
+    let mut statement = [0i64; AREA_NUMBERS];
+    let answer = settlement::settle(&day[0..DAY_BYTES], &mut statement);
     show::text(label);
     show_verdict(answer);
     show_hour(&statement, hour);
@@ -145,8 +163,8 @@ fn tiers() {
 }
 
 // Hubs at 80.00 and 95.50, d 3, and M = 120 MW in the hour ending 8, of tier 2. The hour ending 9 is of tier 1.
-fn failed_day() -> [u8; 11832] {
-    let quiet = quiet_day(PEAK_HOURS, 3, 8000, 9550);
+fn failed_day() -> [u8; ROOM] {
+    let quiet = quiet_day(limits::PEAK_WORD, 3, 8000, 9550);
     let mut day = put_deficiency(put_deficiency(quiet, 7, 120000, 1000000), 8, 5000, 1000000);
     let mut hour: u8 = 6;
     while hour < 22 {
@@ -218,7 +236,7 @@ fn downwards() {
     downward(b"T9 W 12.500 at MEC 40:", 12500, 400000);
 }
 
-fn put_last_ten(before: [u8; 11832], quantity: u32, price: u32) -> [u8; 11832] {
+fn put_last_ten(before: [u8; ROOM], quantity: u32, price: u32) -> [u8; ROOM] {
     let mut pairs = before;
     let mut interval: usize = 2;
     while interval < 12 {
@@ -231,7 +249,7 @@ fn put_last_ten(before: [u8; 11832], quantity: u32, price: u32) -> [u8; 11832] {
 
 // 100 MWh at 30 and 300 at 50, and ten more intervals of the given quantity and price.
 fn averaged(label: &[u8], quantity: u32, price: u32) {
-    let first = put(put([0u8; 11832], 0, 100000), 1, 300000);
+    let first = put(put([0u8; ROOM], 0, 100000), 1, 300000);
     let second = put(put(first, 2, 300000), 3, 500000);
     let pairs = put_last_ten(second, quantity, price);
     let answer = price::load_weighted(&pairs[0..96]);
@@ -242,8 +260,12 @@ fn averaged(label: &[u8], quantity: u32, price: u32) {
 }
 
 fn averages() {
-    averaged(b"T10 ten missing:", 0, MISSING);
-    averaged(b"T10 ten of 100 MWh missing:", 100000, MISSING);
+    averaged(b"T10 ten missing:", 0, limits::MISSING_PRICE);
+    averaged(
+        b"T10 ten of 100 MWh missing:",
+        100000,
+        limits::MISSING_PRICE,
+    );
     averaged(
         b"T10 ten of 100 MWh at 0 (what filling with 0 would give):",
         100000,
@@ -259,7 +281,7 @@ fn shared(label: &[u8], amount: i64, demands: [u32; 3], n: usize) {
         coordinator: 0,
         demand: 0,
     };
-    let mut rows = [none; 70];
+    let mut rows = [none; sharing::ROWS_BY_VALUE];
     rows[0] = Row {
         coordinator: 1,
         demand: demands[0],
@@ -285,27 +307,37 @@ fn sharing() {
     shared(b"T11 -100 cents over 1, 1, 1:", -100, [1, 1, 1], 3);
     shared(b"T12 1 cent over 1, 0, 1:", 1, [1, 0, 1], 3);
     shared(b"-25 cents over 1, 1:", -25, [1, 1, 0], 2);
-    shared(b"10,000,000,000 cents:", 10000000000, [1, 1, 0], 2);
-    shared(b"10,000,000,001 cents:", 10000000001, [1, 1, 0], 2);
-    shared(b"-10,000,000,001 cents:", -10000000001, [1, 1, 0], 2);
+    shared(b"10,000,000,000 cents:", limits::MOST_AMOUNT, [1, 1, 0], 2);
+    shared(
+        b"10,000,000,001 cents:",
+        limits::MOST_AMOUNT + 1,
+        [1, 1, 0],
+        2,
+    );
+    shared(
+        b"-10,000,000,001 cents:",
+        -limits::MOST_AMOUNT - 1,
+        [1, 1, 0],
+        2,
+    );
 }
 
 fn case_p() {
-    let day = quiet_day(PEAK_HOURS, 0, 0, 0);
+    let day = quiet_day(limits::PEAK_WORD, 0, 0, 0);
     let day = put_deficiency(day, 2, 40000, 60000);
     let day = put_price(day, 2, 250000);
     settled(b"Case P, 807 words, hour ending 3:", day, 2);
     show::text(b"Area 7 of case P, in bytes: ");
-    show::unsigned(dayfile::body_of(&day[0..3228], 7).len() as u64);
+    show::unsigned(dayfile::body_of(&day[0..DAY_BYTES], 7).len() as u64);
     show::text(b"; area 8: ");
-    show::unsigned(dayfile::body_of(&day[0..3228], 8).len() as u64);
+    show::unsigned(dayfile::body_of(&day[0..DAY_BYTES], 8).len() as u64);
     show::end();
 }
 
-fn put_coordinators(before: [u8; 11832]) -> [u8; 11832] {
+fn put_coordinators(before: [u8; ROOM]) -> [u8; ROOM] {
     let mut day = before;
     let mut i: u8 = 0;
-    while i < 64 {
+    while (i as usize) < limits::MOST_COORDINATORS {
         let next = put(day, 14 + (i as usize), 1 + (i as u32));
         day = next;
         i += 1;
@@ -313,12 +345,12 @@ fn put_coordinators(before: [u8; 11832]) -> [u8; 11832] {
     day
 }
 
-// The longest body: two load points and 64 coordinators.
+// The longest body: the most load points and the most coordinators.
 fn longest_body(label: &[u8], words: u32) {
-    let day = put_area(put_head([0u8; 11832], 0, words), 0, 0, 0);
+    let day = put_area(put_head([0u8; ROOM], 0, words), 0, 0, 0);
     let day = put(day, 7, 1);
-    let day = put(day, 12, 2);
-    let day = put(day, 13, 64);
+    let day = put(day, 12, limits::MOST_POINTS as u32);
+    let day = put(day, 13, limits::MOST_COORDINATORS as u32);
     let day = put_coordinators(day);
     let answer = dayfile::check(&day);
     show::text(label);
@@ -335,6 +367,6 @@ fn main() {
     averages();
     sharing();
     case_p();
-    longest_body(b"A body of 2,951 words:", 2951);
-    longest_body(b"Its length said to be 2,952:", 2952);
+    longest_body(b"A body of 2,951 words:", LONGEST_BODY);
+    longest_body(b"Its length said to be 2,952:", LONGEST_BODY + 1);
 }

@@ -1,2 +1,3 @@
 pub mod Layout
 pub mod Check
+pub mod Kept

@@ -3,6 +3,7 @@ use verdict::Verdict;
 ghost use mathlib.Core.Path.{_≡_};
 ghost use Prim.Native.Nat.{_+_, _*_, _≤_, _<_};
 ghost use lib.ListN.{length};
+ghost use Rattle.limits.specs.Ranges.{mostDemand};
 ghost use Rattle.hour.specs.Layout.{hourWords};
 ghost use Rattle.hour.specs.Check.{rangeRule, pairRule, demandRule, deficienciesRule, intervalsRule, demandsRule, numbersRule, hourRule};
 
@@ -21,7 +22,11 @@ fn deficiencies(start: usize, body: &[u8], at: usize) -> Verdict
 {
     let mut i: usize = 0;
     while i < 6 {
-        let v = range(start + (at + i), 2500000, words::word(body, at + i));
+        let v = range(
+            start + (at + i),
+            limits::MOST_DEFICIENCY,
+            words::word(body, at + i),
+        );
         if verdict::number(v) != 0 {
             return v;
         }
@@ -34,13 +39,13 @@ fn deficiencies(start: usize, body: &[u8], at: usize) -> Verdict
 fn pair(place: usize, next: usize, quantity: u32, price: u32) -> Verdict
     ensures { λ r. ⌜ r ≡ pairRule place next quantity price ⌝ }
 {
-    if 10000000 < quantity {
+    if limits::MOST_QUANTITY < quantity {
         return Verdict::OutOfRange { place };
     }
-    if price == 2147483648 {
+    if price == limits::MISSING_PRICE {
         return Verdict::Accepted;
     }
-    if 20000000 < words::magnitude(price) {
+    if limits::MOST_MARKET_PRICE < words::magnitude(price) {
         return Verdict::OutOfRange { place: next };
     }
     Verdict::Accepted
@@ -66,13 +71,13 @@ pub fn intervals(start: usize, body: &[u8], from: usize, count: usize) -> Verdic
 }
 
 pub fn demand(place: usize, before: u32, demand: u32) -> Verdict
-    requires { ⌜ before ≤ 100000000 ⌝ }
+    requires { ⌜ before ≤ mostDemand ⌝ }
     ensures { λ r. ⌜ r ≡ demandRule place before demand ⌝ }
 {
-    if 100000000 < demand {
+    if limits::MOST_DEMAND < demand {
         return Verdict::OutOfRange { place };
     }
-    if 100000000 < before + demand {
+    if limits::MOST_DEMAND < before + demand {
         return Verdict::RunningDemandTooLarge { place };
     }
     Verdict::Accepted
@@ -105,12 +110,16 @@ fn numbers(start: usize, body: &[u8], at: usize) -> Verdict
     if verdict::number(first) != 0 {
         return first;
     }
-    let second = range(start + (at + 6), 50000000, words::word(body, at + 6));
+    let second = range(
+        start + (at + 6),
+        limits::MOST_REQUIREMENT,
+        words::word(body, at + 6),
+    );
     if verdict::number(second) != 0 {
         return second;
     }
     let mec = words::magnitude(words::word(body, at + 7));
-    range(start + (at + 7), 20000000, mec)
+    range(start + (at + 7), limits::MOST_MARKET_PRICE, mec)
 }
 
 // The first word of the hour that starts at word `at` that breaks its rule, in a body that starts at word `start` of the file.

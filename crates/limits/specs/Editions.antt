@@ -1,5 +1,46 @@
--- The bounds of each edition of the day file.
+-- The bounds of each edition of the day file, and of a file by its first word.
+use Prim.Native.Nat.{ℕ, _≤_}
+use mathlib.Core.Bool.{Bool, true, not, _||_}
+use mathlib.Core.Path.{_≡_}
+use lib.Dec.{eqb, leb}
 use Rattle.limits.specs.declared.Limits.{Limits}
+use Rattle.limits.specs.Ranges.{plainAreas, plainPoints, plainWords}
+
+-- the most areas, the most load points and, of those that bound them, the most bytes over all editions
+abbrev pub mostAreas : ℕ
+mostAreas = 8
+
+abbrev pub mostPoints : ℕ
+mostPoints = 2
+
+abbrev pub mostBytes : ℕ
+mostBytes = 65536
 
 unfoldable pub editionOne : Limits
-editionOne = record { areas = 8; points = 2; words = 2951; bytes = 65536 }
+editionOne = record { areas = 8; points = 2; words = 2951; bounded = true; bytes = mostBytes }
+
+-- "Word 0: edition, 1"
+abbrev pub editionKnown : ℕ → Bool
+editionKnown edition = eqb edition 1
+
+abbrev pub KnownEdition : ℕ → Type 0
+KnownEdition edition = edition ≡ 1
+
+-- the limits of a file by its first word: edition 1 is the only one
+unfoldable pub limitsOf : ℕ → Limits
+limitsOf edition = editionOne
+
+-- ---- bytes: the bound can be absent
+
+abbrev pub bytesAllowed : Limits → ℕ → Bool
+bytesAllowed limits bytes = not (limits .bounded) || leb bytes (limits .bytes)
+
+abbrev pub WithinBytes : Limits → ℕ → Type 0
+WithinBytes limits bytes = limits .bounded ≡ true → bytes ≤ limits .bytes
+
+-- ---- limits within the plain limits of the proofs
+
+pub record Plain (limits : Limits) : Type 0 where
+  pub areas : limits .areas ≤ plainAreas
+  pub points : limits .points ≤ plainPoints
+  pub words : limits .words ≤ plainWords

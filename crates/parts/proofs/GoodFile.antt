@@ -13,20 +13,24 @@ use lib.ListN.{length, getD}
 use borrow.Author.Tests.{leb-true}
 use Rattle.words.specs.Word.{wordAt}
 use Rattle.limits.specs.declared.Limits.{Limits}
+use Rattle.limits.specs.Ranges.{peakWord, plainWords}
+use Rattle.limits.specs.Editions.{limitsOf, Plain}
+use Rattle.limits.proofs.Editions.{plain}
 use Rattle.calendar.specs.Date.{realDate}
 use Rattle.verdict.specs.Verdict.{numberOf}
 use Rattle.verdict.proofs.First.{both}
 use Rattle.body.specs.Layout.{kindOf}
-use Rattle.body.specs.Sound.{Sound}
+use Rattle.body.specs.Kept.{Sound}
 use Rattle.dayfile.specs.File.{numberAt, startAt, sizeAt, bodyAt, numberBefore, dueAt, cisoBefore}
-use Rattle.dayfile.specs.Check.{checkWithin}
+use Rattle.dayfile.specs.Check.{checkOf, checkWithin}
 use Rattle.dayfile.proofs.Entries.{Entry}
 use Rattle.dayfile.proofs.Facts.{Head, Length}
 use Rattle.acceptance.proofs.SoundAccepted.{file-accepts}
-use Rattle.parts.specs.Bytes.{Below}
-use Rattle.parts.specs.FileOf.{Area, sizeOf, contentsOf, frontOf, fileOf}
-use Rattle.parts.specs.Good.{areaAt, wordsTo, cisoTo, numberTo, Good}
-use Rattle.parts.proofs.FileOf.{words-shift, Whole, edition-there, day-there, count-there, peak-there, number-there, start-there, size-there, body-is, file-long}
+use Rattle.words.specs.Bytes.{Below}
+use Rattle.dayfile.specs.Parts.{Area, sizeOf, contentsOf, frontOf, fileOf, areaAt, wordsTo}
+use Rattle.parts.specs.Good.{cisoTo, numberTo, Good}
+use Rattle.dayfile.proofs.Parts.{words-shift, Whole, edition-there, day-there, count-there, peak-there, number-there, start-there, size-there}
+use Rattle.dayfile.proofs.Parts.{body-is, file-long}
 
 words-within : (areas : List Area) (k n : ℕ) → k < n → wordsTo areas k + sizeOf (areaAt areas k) ≤ wordsTo areas n
 unfolding wordsTo
@@ -50,7 +54,8 @@ date-small day h =
     omega (arith, leb-true (day / 10000) 2099 (both (leb 2000 (day / 10000)) (leb (day / 10000) 2099) (e .0) .1))
 
 contents-below : (start : ℕ) (areas : List Area) → ((k : ℕ) → k < length areas → areaAt areas k .number < 4294967296)
-    → start + wordsTo areas (length areas) < 4294967296 → (i : ℕ) → i < length (contentsOf start areas) → getD (contentsOf start areas) i 0 < 4294967296
+    → start + wordsTo areas (length areas) < 4294967296 → (i : ℕ) → i < length (contentsOf start areas)
+    → getD (contentsOf start areas) i 0 < 4294967296
 unfolding contentsOf
 contents-below start [] numbers fits i h = absurd (omega arith)
 contents-below start (area ∷ areas) numbers fits zero h = numbers 0 (omega arith)
@@ -59,63 +64,88 @@ contents-below start (area ∷ areas) numbers fits (suc (suc zero)) h = omega (a
 contents-below start (area ∷ areas) numbers fits (suc (suc (suc i))) h =
     contents-below (start + sizeOf area) areas (λ k p. numbers (suc k) (omega arith)) (omega (arith, words-shift area areas (length areas))) i (omega arith)
 
-module _ (limits : Limits) (day peak : ℕ) (areas : List Area) (good : Good limits day peak areas) (bytes : limits .bytes ≤ 4294967296) where
+module _ (limits : Limits) (edition day peak : ℕ) (areas : List Area) (good : Good limits edition day peak areas) (within : Plain limits) where
   abbrev n : ℕ
   n = length areas
 
   abbrev file : List ℕ
-  file = fileOf day peak areas
+  file = fileOf edition day peak areas
 
   pub whole : Whole areas
   whole = record { each = λ k h. good .area k h .whole }
 
-  pub small : Below 4294967296 (frontOf day peak areas)
+  -- within the plain limits the bodies are short enough for their starts to be words
+  bodies-few : (k : ℕ) → k ≤ n → wordsTo areas k ≤ plainWords * k
+  unfolding wordsTo
+  bodies-few zero h = omega arith
+  bodies-few (suc k) h = omega (arith, bodies-few k (omega arith), good .area k h .most, within .words)
+
+  pub small : Below 4294967296 (frontOf edition day peak areas)
   small = record { each = by }
     where
-      by : (i : ℕ) → i < length (frontOf day peak areas) → getD (frontOf day peak areas) i 0 < 4294967296
-      by zero h = omega arith
+      by : (i : ℕ) → i < length (frontOf edition day peak areas) → getD (frontOf edition day peak areas) i 0 < 4294967296
+      by zero h = omega (arith, good .known)
       by (suc zero) h = date-small day (good .real)
-      by (suc (suc zero)) h = omega (arith, good .fits)
-      by (suc (suc (suc zero))) h = ⊎-elim (λ (e : peak ≡ 0). omega arith) (λ (e : peak ≡ 4194240). omega arith) (good .peak-known)
-      by (suc (suc (suc (suc i)))) h = contents-below (4 + 3 * n) areas (λ k p. omega (arith, good .area k p .small)) (omega (arith, good .fits)) i (omega arith)
+      by (suc (suc zero)) h = omega (arith, good .few, within .areas)
+      by (suc (suc (suc zero))) h = ⊎-elim (λ (e : peak ≡ 0). omega arith) (λ (e : peak ≡ peakWord). omega arith) (good .peak-known)
+      by (suc (suc (suc (suc i)))) h =
+          contents-below (4 + 3 * n) areas (λ k p. omega (arith, good .area k p .small))
+          (omega (arith, bodies-few n (le-refl _), good .few, within .areas)) i (omega arith)
 
   words : length file / 4 ≡ 4 + 3 * n + wordsTo areas n
-  words = omega (arith, file-long day peak areas small whole)
+  words = omega (arith, file-long edition day peak areas small whole)
 
-  length-kept : Length (limits .bytes) (length file)
+  length-kept : Length limits (length file)
   length-kept =
-      let long = file-long day peak areas small whole in
-      record { least = omega arith; most-bytes = omega (arith, good .fits); whole = omega arith }
+      let long = file-long edition day peak areas small whole in
+      record { least = omega arith; most-bytes = rw long (good .fits); whole = omega arith }
 
   head-kept : Head (limits .areas) (length file / 4) (wordAt file 0) (wordAt file 1) (wordAt file 2) (wordAt file 3)
   head-kept =
-      rw (edition-there day peak areas small, day-there day peak areas small, count-there day peak areas small, peak-there day peak areas small, words)
-      (record { edition-one = refl; real = good .real; some = good .some; few = good .few; room = omega arith; peak-known = good .peak-known })
+      rw (
+        edition-there edition day peak areas small,
+        day-there edition day peak areas small,
+        count-there edition day peak areas small,
+        peak-there edition day
+            peak areas small,
+        words,
+      )
+      (record { edition-known = good .known; real = good .real; some = good .some; few = good .few; room = omega arith; peak-known = good .peak-known })
 
   number-before : (k : ℕ) → k < n → numberBefore file k ≡ numberTo areas k
   unfolding numberBefore numberTo
   number-before zero h = refl
-  number-before (suc k) h = number-there day peak areas small k (omega arith)
+  number-before (suc k) h = number-there edition day peak areas small k (omega arith)
 
   due-there : (k : ℕ) → k < n → dueAt file (wordAt file 2) k ≡ 4 + 3 * n + wordsTo areas k
   unfolding dueAt wordsTo
-  due-there zero h = omega (arith, count-there day peak areas small)
-  due-there (suc k) h = omega (arith, start-there day peak areas small k (omega arith), size-there day peak areas small k (omega arith))
+  due-there zero h = omega (arith, count-there edition day peak areas small)
+  due-there (suc k) h = omega (arith, start-there edition day peak areas small k (omega arith), size-there edition day peak areas small k (omega arith))
 
   ciso-before : (k : ℕ) → k ≤ n → cisoBefore file k ≡ cisoTo areas k
   unfolding cisoBefore cisoTo
   ciso-before zero h = refl
-  ciso-before (suc k) h = ap₂ (λ c b. c + kindOf b) (ciso-before k (omega arith)) (body-is day peak areas small k h whole)
+  ciso-before (suc k) h = ap₂ (λ c b. c + kindOf b) (ciso-before k (omega arith)) (body-is edition day peak areas small k h whole)
 
   module _ (k : ℕ) (below : k < wordAt file 2) where
     inside : k < n
-    inside = omega (arith, count-there day peak areas small)
+    inside = omega (arith, count-there edition day peak areas small)
 
-    entry-kept : Entry (limits .words) (length file / 4) (wordAt file 2) k (numberBefore file k) (dueAt file (wordAt file 2) k) (numberAt file k) (startAt file k) (sizeAt file k)
+    entry-kept : Entry (limits .words) (length file / 4) (wordAt file 2) k (numberBefore file k) (dueAt file (wordAt file 2) k) (numberAt file k)
+        (startAt file k) (sizeAt file k)
     entry-kept =
         let g = good .area k inside in
         let within = words-within areas k n inside in
-        rw (words, number-before k inside, due-there k inside, number-there day peak areas small k inside, start-there day peak areas small k inside, size-there day peak areas small k inside, count-there day peak areas small)
+        rw (
+          words,
+          number-before k inside,
+          due-there k inside,
+          number-there edition day peak areas small k inside,
+          start-there edition day peak areas small
+              k inside,
+          size-there edition day peak areas small k inside,
+          count-there edition day peak areas small,
+        )
         (record {
           rising = g .rising;
           small = g .small;
@@ -127,10 +157,19 @@ module _ (limits : Limits) (day peak : ℕ) (areas : List Area) (good : Good lim
         })
 
     sound-kept : Sound (limits .points) (bodyAt file k)
-    sound-kept = rw (body-is day peak areas small k inside whole) (good .area k inside .sound)
+    sound-kept = rw (body-is edition day peak areas small k inside whole) (good .area k inside .sound)
 
     ciso-kept : cisoBefore file k + kindOf (bodyAt file k) ≤ 1
-    ciso-kept = rw (ciso-before k (omega (arith, inside)), body-is day peak areas small k inside whole) (good .area k inside .one-ciso)
+    ciso-kept = rw (ciso-before k (omega (arith, inside)), body-is edition day peak areas small k inside whole) (good .area k inside .one-ciso)
 
   pub good-accepted : numberOf (checkWithin limits file) ≡ 0
   good-accepted = file-accepts limits file length-kept head-kept entry-kept sound-kept ciso-kept
+
+-- within the limits that its first word sets
+pub file-accepted : (edition day peak : ℕ) (areas : List Area) → Good (limitsOf edition) edition day peak areas
+    → numberOf (checkOf (fileOf edition day peak areas)) ≡ 0
+unfolding checkOf
+file-accepted edition day peak areas good =
+    let limits = limitsOf edition in
+    rw (edition-there edition day peak areas (small limits edition day peak areas good (plain edition)))
+    (good-accepted limits edition day peak areas good (plain edition))

@@ -1,29 +1,36 @@
 -- The parts of an accepted file are good, and stay good where bodies are replaced by sound ones of the same kind that are not longer.
-use Prim.Native.Nat.{ℕ, zero, suc, _+_, _*_, _/_, _≤_, _<_}
+use Prim.Native.Nat.{ℕ, zero, suc, _+_, _*_, _/_, _%_, _≤_, _<_}
 use mathlib.Core.List.{List}
 use mathlib.Core.Path.{_≡_, refl, sym, ap, ap₂, _∙_}
 use native.Mathlib.Nat.{add-zero}
 use native.Mathlib.Omega.{arith}
 use lib.ListN.{length}
 use Rattle.limits.specs.declared.Limits.{Limits}
+use Rattle.limits.specs.Ranges.{leastBodyWords}
 use Rattle.verdict.specs.Verdict.{numberOf}
 use Rattle.body.specs.Layout.{kindOf}
-use Rattle.body.specs.Sound.{Sound}
-use Rattle.dayfile.specs.File.{dayOf, areasOf, peakOf, numberBefore, dueAt, cisoBefore}
+use Rattle.body.specs.Kept.{Sound}
+use Rattle.dayfile.specs.File.{editionOf, dayOf, areasOf, peakOf, numberBefore, dueAt, cisoBefore}
 use Rattle.dayfile.specs.Check.{checkWithin}
-use Rattle.dayfile.proofs.Facts.{file-length, file-head, file-entry, file-sound, file-one-ciso, body-length}
-use Rattle.parts.specs.FileOf.{Area, sizeOf, areaOf, areasFrom, partsOf}
-use Rattle.parts.specs.Good.{areaAt, wordsTo, cisoTo, numberTo, GoodArea, Good}
+use Rattle.acceptance.proofs.SoundAccepted.{file-sound}
+use Rattle.dayfile.proofs.Facts.{file-length, file-head, file-entry, file-one-ciso, body-length}
+use Rattle.dayfile.specs.Parts.{Area, sizeOf, areaOf, areasFrom, partsOf, areaAt, wordsTo}
+use Rattle.parts.specs.Good.{cisoTo, numberTo, GoodArea, Good}
 use Rattle.parts.proofs.OwnParts.{areas-count, size-is}
 
 areas-at : (file : List ℕ) (k m j : ℕ) → j < m → areaAt (areasFrom file k m) j ≡ areaOf file (k + j)
 unfolding areasFrom
 areas-at file k zero j h = absurd (omega arith)
 areas-at file k (suc m) zero h = ap (areaOf file) (sym (add-zero k))
-areas-at file k (suc m) (suc j) h = let e : suc k + j ≡ k + suc j = omega arith in areas-at file (suc k) m j (omega arith) ∙ ap (areaOf file) e
+areas-at file k (suc m) (suc j) h =
+    let e : suc k + j ≡ k + suc j = omega arith in
+    areas-at file (suc k) m j (omega arith) ∙ ap (areaOf file) e
 
 pub own-area : (file : List ℕ) (k : ℕ) → k < areasOf file → areaAt (partsOf file) k ≡ areaOf file k
 own-area file k h = let e : 0 + k ≡ k = omega arith in areas-at file 0 (areasOf file) k h ∙ ap (areaOf file) e
+
+whole-words : (bytes : ℕ) → bytes % 4 ≡ 0 → 4 * (bytes / 4) ≡ bytes
+whole-words bytes h = omega arith
 
 module _ (limits : Limits) (file : List ℕ) (accepted : numberOf (checkWithin limits file) ≡ 0) where
   abbrev n : ℕ
@@ -51,17 +58,19 @@ module _ (limits : Limits) (file : List ℕ) (accepted : numberOf (checkWithin l
   end-there zero e = absurd (omega (arith, file-head limits file accepted .some))
   end-there (suc k) e = file-entry limits file accepted k (omega arith) .last (omega arith)
 
-  pub own-good : Good limits (dayOf file) (peakOf file) (partsOf file)
+  pub own-good : Good limits (editionOf file) (dayOf file) (peakOf file) (partsOf file)
   own-good =
       let head = file-head limits file accepted in
       let long = areas-count limits file accepted 0 n in
+      let bytes = file-length limits file accepted in
       record {
+        known = head .edition-known;
         real = head .real;
         some = omega (arith, long, head .some);
         few = omega (arith, long, head .few);
         peak-known = head .peak-known;
         area = λ k h. own-area-good k (omega (arith, h, long));
-        fits = rw long (omega (arith, own-words n (omega arith), end-there n refl, file-length limits file accepted .whole, file-length limits file accepted .most-bytes));
+        fits = rw (long, own-words n (omega arith), end-there n refl, whole-words (length file) (bytes .whole)) (bytes .most-bytes);
       }
     where
       own-area-good : (k : ℕ) → k < n → GoodArea limits (partsOf file) k
@@ -85,11 +94,11 @@ pub record Replaced (limits : Limits) (area other : Area) : Type 0 where
   pub number : other .number ≡ area .number
   pub kind : kindOf (other .body) ≡ kindOf (area .body)
   pub whole : length (other .body) ≡ 4 * sizeOf other
-  pub least : 800 ≤ sizeOf other
+  pub least : leastBodyWords ≤ sizeOf other
   pub not-longer : sizeOf other ≤ sizeOf area
   pub sound : Sound (limits .points) (other .body)
 
-module _ (limits : Limits) (day peak : ℕ) (areas others : List Area) (same : length others ≡ length areas)
+module _ (limits : Limits) (edition day peak : ℕ) (areas others : List Area) (same : length others ≡ length areas)
     (replaced : (k : ℕ) → k < length areas → Replaced limits (areaAt areas k) (areaAt others k)) where
   number-too : (k : ℕ) → k ≤ length areas → numberTo others k ≡ numberTo areas k
   unfolding numberTo
@@ -106,15 +115,16 @@ module _ (limits : Limits) (day peak : ℕ) (areas others : List Area) (same : l
   words-too zero h = omega arith
   words-too (suc k) h = omega (arith, words-too k (omega arith), replaced k h .not-longer)
 
-  pub replaced-good : Good limits day peak areas → Good limits day peak others
+  pub replaced-good : Good limits edition day peak areas → Good limits edition day peak others
   replaced-good good =
       record {
+        known = good .known;
         real = good .real;
         some = omega (arith, same, good .some);
         few = omega (arith, same, good .few);
         peak-known = good .peak-known;
         area = λ k h. by k (omega (arith, h, same));
-        fits = rw same (omega (arith, good .fits, words-too (length areas) (omega arith)));
+        fits = λ bounded. rw same (omega (arith, good .fits bounded, words-too (length areas) (omega arith)));
       }
     where
       by : (k : ℕ) → k < length areas → GoodArea limits others k

@@ -1,58 +1,19 @@
 -- Every accepted file is the file of its own parts.
-use Prim.Native.Nat.{ℕ, zero, suc, _+_, _*_, _/_, _%_, _≤_, _<_}
+use Prim.Native.Nat.{ℕ, zero, suc, _+_, _*_, _<_}
 use mathlib.Core.List.{List, [], _∷_, _++_}
 use mathlib.Core.Path.{_≡_, refl, sym, ap, ap₂, _∙_}
-use native.Mathlib.Numerals.{add-one}
 use native.Mathlib.Omega.{arith}
-use lib.ListN.{length, getD, take, drop, take-append-drop, drop-of-length-le}
-use lib.Seq.{take-add, drop-drop, drop-cons}
+use lib.ListN.{length, drop, take-append-drop, drop-of-length-le}
+use lib.Seq.{drop-drop}
 use Rattle.words.specs.Word.{wordAt}
 use Rattle.limits.specs.declared.Limits.{Limits}
 use Rattle.verdict.specs.Verdict.{numberOf}
-use Rattle.dayfile.specs.File.{dayOf, areasOf, peakOf, numberAt, startAt, sizeAt, dueAt, bodyAt}
+use Rattle.dayfile.specs.File.{editionOf, dayOf, areasOf, peakOf, numberAt, startAt, sizeAt, dueAt, bodyAt}
 use Rattle.dayfile.specs.Check.{checkWithin}
 use Rattle.dayfile.proofs.Facts.{file-length, file-head, file-entry, body-length}
-use Rattle.parts.specs.Bytes.{wordBytes, wordsBytes, wordsFrom, Below}
-use Rattle.parts.specs.FileOf.{sizeOf, contentsOf, bodiesOf, frontOf, fileOf, areaOf, areasFrom, partsOf}
-
--- ---- words and the bytes that they stand for
-
-low-byte : (b q w : ℕ) → b < 256 → w ≡ b + 256 * q → w % 256 ≡ b
-low-byte b q w h e = omega arith
-
-unpacked : (a b d e w : ℕ) → a < 256 → b < 256 → d < 256 → e < 256 → w ≡ a + 256 * b + 65536 * d + 16777216 * e → wordBytes w ≡ a ∷ b ∷ d ∷ e ∷ []
-unpacked a b d e w ha hb hd he is =
-    let one : w / 256 ≡ b + 256 * (d + 256 * e) = omega arith in
-    let two : w / 65536 ≡ d + 256 * e = omega arith in
-    let three : w / 16777216 ≡ e + 256 * 0 = omega arith in
-    rw (
-      low-byte a (b + 256 * d + 65536 * e) w ha (omega arith),
-      low-byte b (d + 256 * e) (w / 256) hb one,
-      low-byte d e (w / 65536) hd two,
-      low-byte e 0 (w / 16777216) he three,
-    )
-
-module _ (file : List ℕ) (bytes : Below 256 file) where
-  four : (j : ℕ) → j + 4 ≤ length file → take 4 (drop j file) ≡ getD file j 0 ∷ getD file (j + 1) 0 ∷ getD file (j + 2) 0 ∷ getD file (j + 3) 0 ∷ []
-  four j h =
-      let two : j + 2 ≡ suc (suc j) = omega arith in
-      let three : j + 3 ≡ suc (suc (suc j)) = omega arith in
-      rw (add-one j, two, three, drop-cons file j 0 (omega arith), drop-cons file (suc j) 0 (omega arith), drop-cons file (suc (suc j)) 0 (omega arith), drop-cons file (suc (suc (suc j))) 0 (omega arith))
-
-  word-bytes : (i : ℕ) → 4 * i + 4 ≤ length file → wordBytes (wordAt file i) ≡ take 4 (drop (4 * i) file)
-  unfolding wordAt
-  word-bytes i h =
-      unpacked _ _ _ _ (wordAt file i) (bytes .each (4 * i) (omega arith)) (bytes .each (4 * i + 1) (omega arith)) (bytes .each (4 * i + 2) (omega arith)) (bytes .each (4 * i + 3) (omega arith)) refl
-      ∙ sym (four (4 * i) h)
-
-  words-bytes : (i m : ℕ) → 4 * (i + m) ≤ length file → wordsBytes (wordsFrom file i m) ≡ take (4 * m) (drop (4 * i) file)
-  unfolding wordsFrom wordsBytes
-  words-bytes i zero h = refl
-  words-bytes i (suc m) h =
-      let e : 4 * suc m ≡ 4 + 4 * m = omega arith in
-      let next : 4 * suc i ≡ 4 * i + 4 = omega arith in
-      ap₂ _++_ (word-bytes i (omega arith)) (words-bytes (suc i) m (omega arith) ∙ ap (λ j. take (4 * m) (drop j file)) next ∙ ap (take (4 * m)) (sym (drop-drop 4 (4 * i) file)))
-      ∙ sym (ap (λ j. take j (drop (4 * i) file)) e ∙ take-add 4 (4 * m) (drop (4 * i) file))
+use Rattle.words.specs.Bytes.{wordsBytes, wordsFrom, Below}
+use Rattle.words.proofs.Bytes.{words-bytes}
+use Rattle.dayfile.specs.Parts.{sizeOf, contentsOf, bodiesOf, frontOf, fileOf, areaOf, areasFrom, partsOf}
 
 module _ (limits : Limits) (file : List ℕ) (accepted : numberOf (checkWithin limits file) ≡ 0) where
   abbrev n : ℕ
@@ -97,7 +58,8 @@ module _ (limits : Limits) (file : List ℕ) (accepted : numberOf (checkWithin l
       let below : k < n = omega arith in
       let here = start-is k below in
       let next : 4 * dueAt file n (suc k) ≡ 4 * startAt file k + 4 * sizeAt file k = omega (arith, due-next k) in
-      ap (λ l. bodyAt file k ++ l) (bodies-own (suc k) m (omega arith) ∙ ap (λ j. drop j file) next ∙ sym (drop-drop (4 * sizeAt file k) (4 * startAt file k) file))
+      ap (λ l. bodyAt file k ++ l) (bodies-own (suc k) m (omega arith) ∙ ap (λ j. drop j file) next
+      ∙ sym (drop-drop (4 * sizeAt file k) (4 * startAt file k) file))
       ∙ take-append-drop (4 * sizeAt file k) (drop (4 * startAt file k) file)
       ∙ ap (λ start. drop (4 * start) file) here
 
@@ -106,15 +68,17 @@ module _ (limits : Limits) (file : List ℕ) (accepted : numberOf (checkWithin l
   areas-count k zero = refl
   areas-count k (suc m) = ap suc (areas-count (suc k) m)
 
-  front-own : frontOf (dayOf file) (peakOf file) (partsOf file) ≡ wordsFrom file 0 (4 + 3 * n)
+  front-own : frontOf (editionOf file) (dayOf file) (peakOf file) (partsOf file) ≡ wordsFrom file 0 (4 + 3 * n)
   unfolding wordsFrom dueAt
   front-own =
       let words : 4 + 3 * n ≡ suc (suc (suc (suc (3 * n)))) = omega arith in
       rw (areas-count 0 n, words)
-      (ap₂ (λ e l. e ∷ wordAt file 1 ∷ n ∷ wordAt file 3 ∷ l) (sym (file-head limits file accepted .edition-one)) (ap (λ start. contentsOf start (partsOf file)) (sym words) ∙ contents-own 0 n (omega arith)))
+      (ap (λ l. wordAt file 0 ∷ wordAt file 1 ∷ n ∷ wordAt file 3 ∷ l)
+      (ap (λ start. contentsOf start (partsOf file)) (sym words) ∙ contents-own 0 n (omega arith)))
 
-  pub own-parts : Below 256 file → fileOf (dayOf file) (peakOf file) (partsOf file) ≡ file
+  pub own-parts : Below 256 file → fileOf (editionOf file) (dayOf file) (peakOf file) (partsOf file) ≡ file
   unfolding fileOf dueAt
   own-parts bytes =
-      ap₂ _++_ (ap wordsBytes front-own ∙ words-bytes file bytes 0 (4 + 3 * n) (omega (arith, file-head limits file accepted .room))) (bodies-own 0 n (omega arith))
+      ap₂ _++_ (ap wordsBytes front-own ∙ words-bytes file bytes 0 (4 + 3 * n) (omega (arith, file-head limits file accepted .room)))
+      (bodies-own 0 n (omega arith))
       ∙ take-append-drop (4 * (4 + 3 * n)) file

@@ -1,25 +1,19 @@
--- The parts that make a file that the check accepts.
+-- The parts that make a file that the check accepts within given limits.
 use Prim.Native.Nat.{ℕ, zero, suc, _+_, _*_, _≤_, _<_}
 use mathlib.Core.Bool.{true}
-use mathlib.Core.List.{List, []}
+use mathlib.Core.List.{List}
 use mathlib.Core.Logic.{_⊎_}
 use mathlib.Core.Path.{_≡_}
-use lib.ListN.{length, getD}
+use lib.ListN.{length}
 use Rattle.limits.specs.declared.Limits.{Limits}
+use Rattle.limits.specs.Ranges.{largestNumber, leastBodyWords, peakWord}
+use Rattle.limits.specs.Editions.{KnownEdition, WithinBytes}
 use Rattle.calendar.specs.Date.{realDate}
 use Rattle.body.specs.Layout.{kindOf}
-use Rattle.body.specs.Sound.{Sound}
-use Rattle.parts.specs.FileOf.{Area, sizeOf}
-
-abbrev pub areaAt : List Area → ℕ → Area
-areaAt areas k = getD areas k (record { number = 0; body = [] })
+use Rattle.body.specs.Kept.{Sound}
+use Rattle.dayfile.specs.Parts.{Area, sizeOf, areaAt, wordsTo}
 
 module _ (areas : List Area) where
-  -- the words of the bodies before area k
-  unfoldable pub wordsTo : ℕ → ℕ
-  wordsTo zero = 0
-  wordsTo (suc k) = wordsTo k + sizeOf (areaAt areas k)
-
   -- how many of the areas before area k are CISO
   unfoldable pub cisoTo : ℕ → ℕ
   cisoTo zero = 0
@@ -32,17 +26,18 @@ module _ (areas : List Area) where
 
 pub record GoodArea (limits : Limits) (areas : List Area) (k : ℕ) : Type 0 where
   pub rising : numberTo areas k < areaAt areas k .number
-  pub small : areaAt areas k .number ≤ 2147483647
+  pub small : areaAt areas k .number ≤ largestNumber
   pub whole : length (areaAt areas k .body) ≡ 4 * sizeOf (areaAt areas k)
-  pub least : 800 ≤ sizeOf (areaAt areas k)
+  pub least : leastBodyWords ≤ sizeOf (areaAt areas k)
   pub most : sizeOf (areaAt areas k) ≤ limits .words
   pub sound : Sound (limits .points) (areaAt areas k .body)
   pub one-ciso : cisoTo areas k + kindOf (areaAt areas k .body) ≤ 1
 
-pub record Good (limits : Limits) (day peak : ℕ) (areas : List Area) : Type 0 where
+pub record Good (limits : Limits) (edition day peak : ℕ) (areas : List Area) : Type 0 where
+  pub known : KnownEdition edition
   pub real : realDate day ≡ true
   pub some : 1 ≤ length areas
   pub few : length areas ≤ limits .areas
-  pub peak-known : (peak ≡ 0) ⊎ (peak ≡ 4194240)
+  pub peak-known : (peak ≡ 0) ⊎ (peak ≡ peakWord)
   pub area : (k : ℕ) → k < length areas → GoodArea limits areas k
-  pub fits : 4 * (4 + 3 * length areas + wordsTo areas (length areas)) ≤ limits .bytes
+  pub fits : WithinBytes limits (4 * (4 + 3 * length areas + wordsTo areas (length areas)))

@@ -1,4 +1,4 @@
--- "Never average in what is missing": an interval whose price is missing changes nothing, and the average over intervals of which some are missing is the
+-- What is missing is never averaged in: an interval whose price is missing changes nothing, and the average over intervals of which some are missing is the
 -- average over the others.
 use Prim.Native.Nat.{ℕ, zero, suc}
 use mathlib.Core.Bool.{Bool, true, false}
@@ -26,7 +26,8 @@ unfolding present
 over-present [] average = refl
 over-present (interval ∷ rest) average = over-one average interval rest (missing (interval .1)) refl (over-present rest)
 
-over-append : (average : Average) (some : List (ℕ × ℕ)) (last : ℕ × ℕ) → averageOver average (some ++ (last ∷ [])) ≡ withInterval (averageOver average some) (last .0) (last .1)
+over-append : (average : Average) (some : List (ℕ × ℕ)) (last : ℕ × ℕ)
+    → averageOver average (some ++ (last ∷ [])) ≡ withInterval (averageOver average some) (last .0) (last .1)
 unfolding averageOver
 over-append average [] last = refl
 over-append average (interval ∷ rest) last = over-append (withInterval average (interval .0) (interval .1)) rest last

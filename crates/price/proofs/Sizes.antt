@@ -9,16 +9,18 @@ use native.Mathlib.Numerals.{add-one}
 use lib.IntN.{pos, natAbs, _*ℤ_}
 use Rattle.exact.proofs.Magnitude.{abs-add, abs-mul}
 use Rattle.words.specs.Word.{signedOf}
+use Rattle.limits.specs.Ranges.{mostMarketPrice, mostQuantity}
 use Rattle.hour.specs.Layout.{missing}
+use Rattle.hour.specs.Kept.{QuantityKept, PriceKept}
 use Rattle.price.specs.declared.Average.{Average}
 use Rattle.price.specs.Price.{withInterval, averageOf, quantityOf, priceOf}
 use Rattle.price.specs.Ranged.{Ranged}
 
 pub record Sized (average : Average) (n : ℕ) : Type 0 where
-  pub value : natAbs (average .value .0) ≤ 20000000 * average .quantity .0
-  pub quantity : average .quantity .0 ≤ 10000000 * n
+  pub value : natAbs (average .value .0) ≤ mostMarketPrice * average .quantity .0
+  pub quantity : average .quantity .0 ≤ mostQuantity * n
 
-with-sized : (a : Average) (n q p : ℕ) → Sized a n → q ≤ 10000000 → (missing p ≡ false → natAbs (signedOf p) ≤ 20000000) → Sized (withInterval a q p) (suc n)
+with-sized : (a : Average) (n q p : ℕ) → Sized a n → QuantityKept q → PriceKept p → Sized (withInterval a q p) (suc n)
 unfolding withInterval
 with-sized a n q p s k b = by (missing p) refl
   where
@@ -27,7 +29,7 @@ with-sized a n q p s k b = by (missing p) refl
     by false e =
         let v = a .value .0 in
         let w = pos q *ℤ signedOf p in
-        let m : q * natAbs (signedOf p) ≤ q * 20000000 = mul-le-mul (le-refl q) (b e) in
+        let m : q * natAbs (signedOf p) ≤ q * mostMarketPrice = mul-le-mul (le-refl q) (b e) in
         rw e (record { value = omega (arith, abs-add v w, abs-mul (pos q) (signedOf p), s .value); quantity = omega (arith, s .quantity) })
 
 pub average-sized : (pairs : List ℕ) (n i : ℕ) → Ranged pairs n → i ≤ n → Sized (averageOf pairs i) i

@@ -1,5 +1,5 @@
--- The load-weighted price of an hour: "sum of quantity × price over intervals whose price is present, over the sum of the same quantities, then R to
--- $0.0001. A missing interval's quantity is left out too." An hour's intervals are pairs of words, quantity and price.
+-- The load-weighted price of an hour (docs/RULES.md, section 7): "sum of quantity × price over intervals whose price is present, over the sum of the same
+-- quantities, then R to $0.0001. A missing interval's quantity is left out too." An hour's intervals are pairs of words, quantity and price.
 use Prim.Native.Nat.{ℕ, zero, suc, _+_, _*_, _/_, _%_}
 use mathlib.Core.Bool.{Bool, cond, _&&_}
 use mathlib.Core.List.{List}
@@ -9,7 +9,7 @@ use lib.ListN.{length}
 use Rattle.exact.specs.Round.{roundDiv}
 use Rattle.words.specs.Word.{wordAt, signedOf}
 use Rattle.verdict.specs.Verdict.{numberOf, placeOf}
-use Rattle.limits.specs.Editions.{editionOne}
+use Rattle.limits.specs.Editions.{mostPoints}
 use Rattle.hour.specs.Layout.{missing}
 use Rattle.hour.specs.Check.{intervalsRule}
 use Rattle.price.specs.declared.Average.{Average}
@@ -40,7 +40,7 @@ module _ (pairs : List ℕ) where
   averageOf zero = emptyAverage
   averageOf (suc n) = withInterval (averageOf n) (quantityOf n) (priceOf n)
 
--- "one rounding at the end"; no quantity under the price is refusal 11
+-- one rounding, at the end; no quantity under the price is refusal 11
 unfoldable pub answerOf : Average → PriceAnswer
 answerOf average = cond (eqb (average .quantity .0) 0) NoQuantity (Price (record { 0 = roundDiv (average .value .0) (average .quantity .0) }))
 
@@ -64,7 +64,7 @@ loadWeightedWithin most pairs =
     BadLength
 
 unfoldable pub loadWeighted : List ℕ → PriceAnswer
-loadWeighted pairs = loadWeightedWithin (editionOne .points) pairs
+loadWeighted pairs = loadWeightedWithin mostPoints pairs
 
 -- ---- the paper's number, place and price of each answer: "a refusal returns price 0, and places for 1 and 11 are 0"
 

@@ -3,10 +3,12 @@ use units::CentsOver100000;
 use units::MarketPrice;
 use units::Quantity;
 ghost use mathlib.Core.Path.{_≡_};
-ghost use Prim.Native.Nat.{_+_, _*_, _/_, _≤_, _<_, _^_};
+ghost use Prim.Native.Nat.{_+_, _*_, _≤_, _<_, _^_};
 ghost use lib.IntN.{natAbs};
 ghost use lib.ListN.{length};
-ghost use Rattle.price.specs.Price.{emptyAverage, withInterval, averageOf, answerOf, averagePrice, loadWeightedWithin, loadWeighted, answerNumber, answerPlace, answerPrice};
+ghost use Rattle.limits.specs.Ranges.{mostQuantity, plainPoints, plainIntervals};
+ghost use Rattle.price.specs.Price.{emptyAverage, withInterval, averageOf, averagePrice, loadWeightedWithin, loadWeighted, answerNumber};
+ghost use Rattle.price.specs.Price.{answerPlace, answerPrice};
 ghost use Rattle.price.specs.Ranged.{Ranged};
 
 // The sum of quantity × price over the intervals whose price is present, and the sum of the same quantities.
@@ -34,10 +36,10 @@ impl Average {
 
     // One interval more: a missing price leaves its quantity out too.
     pub fn with_interval(mut self, quantity: u32, price: u32) -> Average
-        requires { ⌜ (natAbs (self .value .0) ≤ 2 ^ 62) × ((quantity ≤ 10000000) × (self .quantity .0 + quantity < 2 ^ 32)) ⌝ }
+        requires { ⌜ (natAbs (self .value .0) ≤ 2 ^ 62) × ((quantity ≤ mostQuantity) × (self .quantity .0 + quantity < 2 ^ 32)) ⌝ }
         ensures { λ r. ⌜ r ≡ withInterval self quantity price ⌝ }
     {
-        if price == 2147483648 {
+        if price == limits::MISSING_PRICE {
             return self;
         }
         let value = self.value;
@@ -51,7 +53,7 @@ impl Average {
 
 // The average of the first n intervals.
 fn averaged(pairs: &[u8], n: usize) -> Average
-    requires { ⌜ (n ≤ 384) × (8 * n ≤ length (now pairs)) ⌝ }
+    requires { ⌜ (n ≤ plainIntervals) × (8 * n ≤ length (now pairs)) ⌝ }
     requires { ⌜ Ranged (now pairs) n ⌝ }
     ensures { λ r. ⌜ r ≡ averageOf (now (pairs .entry)) n ⌝ }
 {
@@ -66,7 +68,7 @@ fn averaged(pairs: &[u8], n: usize) -> Average
 
 // The price of n intervals whose numbers are in range: of a file that the check accepts, or past the call's own check.
 pub fn average_price(pairs: &[u8], n: usize) -> PriceAnswer
-    requires { ⌜ (n ≤ 384) × (8 * n ≤ length (now pairs)) ⌝ }
+    requires { ⌜ (n ≤ plainIntervals) × (8 * n ≤ length (now pairs)) ⌝ }
     requires { ⌜ Ranged (now pairs) n ⌝ }
     ensures { λ r. ⌜ r ≡ averagePrice (now (pairs .entry)) n ⌝ }
 {
@@ -81,7 +83,7 @@ pub fn average_price(pairs: &[u8], n: usize) -> PriceAnswer
 
 // The price of an hour with one to `most` load points.
 fn load_weighted_within(most: usize, pairs: &[u8]) -> PriceAnswer
-    requires { ⌜ most ≤ 32 ⌝ }
+    requires { ⌜ most ≤ plainPoints ⌝ }
     ensures { λ r. ⌜ r ≡ loadWeightedWithin most (now (pairs .entry)) ⌝ }
 {
     if pairs.len() % 96 != 0 {
@@ -107,10 +109,10 @@ fn load_weighted_within(most: usize, pairs: &[u8]) -> PriceAnswer
 pub fn load_weighted(pairs: &[u8]) -> PriceAnswer
     ensures { λ r. ⌜ r ≡ loadWeighted (now (pairs .entry)) ⌝ }
 {
-    load_weighted_within(limits::edition_one().points as usize, pairs)
+    load_weighted_within(limits::MOST_POINTS, pairs)
 }
 
-// The number of document 01's table.
+// The number of the answer (docs/RULES.md, section 11).
 pub fn number(answer: PriceAnswer) -> u32
     ensures { λ r. ⌜ r ≡ answerNumber answer ⌝ }
 {
@@ -122,7 +124,7 @@ pub fn number(answer: PriceAnswer) -> u32
     }
 }
 
-// The place of document 01's table.
+// The place of the answer (docs/RULES.md, section 11).
 pub fn place(answer: PriceAnswer) -> usize
     ensures { λ r. ⌜ r ≡ answerPlace answer ⌝ }
 {

@@ -5,12 +5,11 @@ use mathlib.Core.Path.{_≡_}
 use native.Mathlib.Omega.{arith}
 use lib.ListN.{length}
 use Rattle.verdict.specs.Verdict.{numberOf, placeOf}
-use Rattle.dayfile.specs.File.{areasOf}
-use Rattle.settlement.specs.Settlement.{fileDays}
+use Rattle.settlement.specs.Settlement.{daysBy, ownDays}
 use Rattle.settlement.proofs.Places.{settle-place}
 use Rattle.rse8080.specs.Call.{verdictOf, coded}
 
-pub decoded : (file statement : List ℕ)
-    → (coded (verdictOf file statement) / 1000000 ≡ numberOf (verdictOf file statement)) × (coded (verdictOf file statement) % 1000000 ≡ placeOf (verdictOf file statement))
+pub decoded : (file statement : List ℕ) → let verdict = verdictOf file statement in
+    (coded verdict / 1000000 ≡ numberOf verdict) × (coded verdict % 1000000 ≡ placeOf verdict)
 unfolding coded
-decoded file statement = let small = settle-place (fileDays file (areasOf file)) file (length statement / 8) in (omega arith, omega arith)
+decoded file statement = let small = settle-place (daysBy ownDays file) file (length statement / 8) in (omega arith, omega arith)

@@ -26,7 +26,8 @@ unfolding encoded
 encoded-last [] z = append-nil (bytesOf (bitsOf z))
 encoded-last (x ∷ numbers) z = rw (encoded-last numbers z) (sym (append-assoc (bytesOf (bitsOf x)) (encoded numbers) (bytesOf (bitsOf z))))
 
-encoded-more : (numbers : List ℤ) (i : ℕ) → i < length numbers → encoded (take (i + 1) numbers) ≡ encoded (take i numbers) ++ bytesOf (bitsOf (getD numbers i (pos 0)))
+encoded-more : (numbers : List ℤ) (i : ℕ) → i < length numbers
+    → encoded (take (i + 1) numbers) ≡ encoded (take i numbers) ++ bytesOf (bitsOf (getD numbers i (pos 0)))
 encoded-more numbers i h = rw (add-one, take-suc numbers i (pos 0)) (encoded-last (take i numbers) (getD numbers i (pos 0)))
 
 -- a turn of the loop that stores number after number
@@ -37,4 +38,5 @@ pub encoded-step : (numbers : List ℤ) (i : ℕ) (z : ℤ) (before xs part : Li
 encoded-step numbers i z before xs part h is stands came =
     let next : 8 * (i + 1) ≡ 8 * i + 8 = omega arith in
     rw (encoded-more numbers i h, ← is, next)
-    (lent-back (encoded (take i numbers)) before (bytesOf (bitsOf z)) xs part (8 * i) 8 (encoded-length (take i numbers) ∙ rw (length-take-le i numbers (le-of-lt h))) stands came)
+    (lent-back (encoded (take i numbers)) before (bytesOf (bitsOf z)) xs part (8 * i) 8
+    (encoded-length (take i numbers) ∙ rw (length-take-le i numbers (le-of-lt h))) stands came)

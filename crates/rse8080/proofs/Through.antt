@@ -1,4 +1,4 @@
--- The settlement through a room of 2,280 numbers: what is answered there is what a room of any length would be answered.
+-- The settlement through a room for the longest statement: what is answered there is what a room of any length would be answered.
 -- `room` numbers of `numbers` were lent, `answer` was given, and they came back as `back`.
 use Prim.Native.Nat.{ℕ, _*_, _/_, _≤_, min}
 use mathlib.Core.List.{List, _++_, append-assoc}
@@ -12,7 +12,7 @@ use Rattle.verdict.specs.declared.Verdict.{Verdict}
 use Rattle.verdict.specs.Verdict.{numberOf, placeOf}
 use Rattle.dayfile.specs.File.{areasOf}
 use Rattle.settlement.specs.SoundFile.{SoundFile}
-use Rattle.settlement.specs.Settlement.{mostNumbers, numbersNeeded, statementTo, fileDays, settleOf, after}
+use Rattle.settlement.specs.Settlement.{mostNumbers, mostPlace, numbersNeeded, statementTo, daysBy, ownDays, settleOf, after}
 use Rattle.settlement.proofs.Accepted.{sound-file, settled}
 use Rattle.settlement.proofs.Areas.{statement-length}
 use Rattle.settlement.proofs.Places.{settle-place}
@@ -26,8 +26,12 @@ pub record Lent (file bytes : List ℕ) (numbers back : List ℤ) (room : ℕ) (
   pub came : back ≡ after answer file (take room numbers)
 
 module _ {file bytes : List ℕ} {numbers back : List ℤ} {room : ℕ} {answer : Verdict} (l : Lent file bytes numbers back room answer) where
-  abbrev days : List ℕ
-  days = fileDays file (areasOf file)
+  abbrev days : ℕ → ℕ
+  days = daysBy ownDays file
+
+  -- the numbers that are written out as bytes
+  abbrev written : List ℤ
+  written = statementTo days file (areasOf file)
 
   lent : length (take room numbers) ≡ room
   lent = length-take-le room numbers (omega (arith, l .long, l .cut))
@@ -38,7 +42,7 @@ module _ {file bytes : List ℕ} {numbers back : List ℤ} {room : ℕ} {answer 
   pub answer-is : answer ≡ verdictOf file bytes
   answer-is = judged ∙ ap (settleOf file) (l .cut) ∙ room-cut days file (length bytes / 8)
 
-  pub place-small : placeOf answer ≤ 16384
+  pub place-small : placeOf answer ≤ mostPlace
   place-small = rw judged (settle-place days file room)
 
   pub bytes-stay : (numberOf answer ≡ 0 → ⊥) → bytes ≡ bytesAfter (verdictOf file bytes) file bytes
@@ -55,10 +59,10 @@ module _ {file bytes : List ℕ} {numbers back : List ℤ} {room : ℕ} {answer 
     pub enough : numbersNeeded file ≤ room
     enough = room-enough days file room zero
 
-    pub numbers-are : take (numbersNeeded file) (back ++ drop room numbers) ≡ statementTo file days (areasOf file)
+    pub numbers-are : take (numbersNeeded file) (back ++ drop room numbers) ≡ written
     numbers-are =
         rw (l .came, ← settled days file answer (take room numbers) accepted, append-assoc)
-        (take-at (statementTo file days (areasOf file)) _ _ (statement-length file sound days (areasOf file) (omega arith)))
+        (take-at written _ _ (statement-length file sound days (areasOf file) (omega arith)))
 
     pub part-long : length (take (numbersNeeded file) (back ++ drop room numbers)) ≡ numbersNeeded file
     part-long = ap length numbers-are ∙ statement-length file sound days (areasOf file) (omega arith)
@@ -66,6 +70,6 @@ module _ {file bytes : List ℕ} {numbers back : List ℤ} {room : ℕ} {answer 
     pub part-inside : numbersNeeded file ≤ length (back ++ drop room numbers)
     part-inside = omega (arith, sym (length-take (numbersNeeded file) (back ++ drop room numbers)) ∙ part-long)
 
-    pub bytes-settled : encoded (statementTo file days (areasOf file)) ++ drop (8 * numbersNeeded file) bytes ≡ bytesAfter (verdictOf file bytes) file bytes
+    pub bytes-settled : encoded written ++ drop (8 * numbersNeeded file) bytes ≡ bytesAfter (verdictOf file bytes) file bytes
     unfolding bytesAfter
     bytes-settled = rw (← answer-is, eq-eqb (numberOf answer) 0 accepted)

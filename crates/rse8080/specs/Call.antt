@@ -9,7 +9,7 @@ use lib.ListN.{length, drop}
 use Rattle.verdict.specs.declared.Verdict.{Verdict}
 use Rattle.verdict.specs.Verdict.{numberOf, placeOf}
 use Rattle.dayfile.specs.File.{areasOf}
-use Rattle.settlement.specs.Settlement.{settleOf, statementTo, numbersNeeded, fileDays}
+use Rattle.settlement.specs.Settlement.{numbersNeeded, statementTo, daysBy, ownDays, settleOf}
 
 -- the 64 bits of a number, two's complement
 abbrev pub bitsOf : ℤ → ℕ
@@ -43,4 +43,6 @@ coded verdict = numberOf verdict * 1000000 + placeOf verdict
 -- the statement bytes afterwards: those of the settled statement and then what stood behind them, or after a refusal all as they were
 unfoldable pub bytesAfter : Verdict → List ℕ → List ℕ → List ℕ
 bytesAfter verdict file statement =
-    cond (eqb (numberOf verdict) 0) (encoded (statementTo file (fileDays file (areasOf file)) (areasOf file)) ++ drop (8 * numbersNeeded file) statement) statement
+    cond (eqb (numberOf verdict) 0)
+    (encoded (statementTo (daysBy ownDays file) file (areasOf file)) ++ drop (8 * numbersNeeded file) statement)
+    statement

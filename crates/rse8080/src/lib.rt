@@ -2,10 +2,10 @@
 use verdict::Verdict;
 ghost use mathlib.Core.Path.{_≡_};
 ghost use mathlib.Core.List.{_++_};
-ghost use Prim.Native.Nat.{_+_, _*_, _≤_, _<_, min};
+ghost use Prim.Native.Nat.{_*_, _≤_, min};
 ghost use lib.ListN.{length, drop};
 ghost use Rattle.verdict.specs.Verdict.{placeOf};
-ghost use Rattle.settlement.specs.Settlement.{mostNumbers};
+ghost use Rattle.settlement.specs.Settlement.{mostNumbers, mostPlace};
 ghost use Rattle.rse8080.specs.Call.{bitsOf, bytesOf, encoded, verdictOf, coded, bytesAfter};
 
 fn bits(z: i64) -> u64
@@ -46,7 +46,7 @@ fn put_numbers(numbers: &[i64], bytes: &mut [u8])
 }
 
 fn code(answer: Verdict) -> u64
-    requires { ⌜ placeOf answer ≤ 16384 ⌝ }
+    requires { ⌜ placeOf answer ≤ mostPlace ⌝ }
     ensures { λ r. ⌜ r ≡ coded answer ⌝ }
 {
     1000000 * (verdict::number(answer) as u64) + (verdict::place(answer) as u64)
@@ -65,7 +65,8 @@ fn smaller(a: usize, b: usize) -> usize
 fn settle_through(file: &[u8], numbers: &mut [i64], statement: &mut [u8]) -> u64
     requires { ⌜ length (now numbers) ≡ mostNumbers ⌝ }
     ensures { λ r. ⌜ r ≡ coded (verdictOf (now (file .entry)) (now (statement .entry))) ⌝ }
-    ensures { λ _. ⌜ now (statement .exit) ≡ bytesAfter (verdictOf (now (file .entry)) (now (statement .entry))) (now (file .entry)) (now (statement .entry)) ⌝ }
+    ensures { λ _. ⌜ now (statement .exit)
+        ≡ bytesAfter (verdictOf (now (file .entry)) (now (statement .entry))) (now (file .entry)) (now (statement .entry)) ⌝ }
 {
     let room = smaller(statement.len() / 8, numbers.len());
     let answer = settlement::settle(file, &mut numbers[..room]);
@@ -82,8 +83,9 @@ fn settle_through(file: &[u8], numbers: &mut [i64], statement: &mut [u8]) -> u64
 #[no_mangle]
 pub extern "C" fn rse8080_settle(file: &[u8], statement: &mut [u8]) -> u64
     ensures { λ r. ⌜ r ≡ coded (verdictOf (now (file .entry)) (now (statement .entry))) ⌝ }
-    ensures { λ _. ⌜ now (statement .exit) ≡ bytesAfter (verdictOf (now (file .entry)) (now (statement .entry))) (now (file .entry)) (now (statement .entry)) ⌝ }
+    ensures { λ _. ⌜ now (statement .exit)
+        ≡ bytesAfter (verdictOf (now (file .entry)) (now (statement .entry))) (now (file .entry)) (now (statement .entry)) ⌝ }
 {
-    let mut numbers = [0i64; 2280];
+    let mut numbers = [0i64; settlement::MOST_NUMBERS];
     settle_through(file, &mut numbers, statement)
 }

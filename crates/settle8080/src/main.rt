@@ -4,21 +4,25 @@ use libc::STDERR_FILENO;
 use libc::STDIN_FILENO;
 use verdict::Verdict;
 ghost use mathlib.Core.Path.{_≡_};
-ghost use Prim.Native.Nat.{_≤_};
+ghost use Prim.Native.Nat.{_+_, _≤_};
 ghost use lib.ListN.{length};
+ghost use Rattle.limits.specs.Ranges.{mostCoordinators};
+ghost use Rattle.limits.specs.Editions.{mostBytes, mostAreas};
+ghost use Rattle.settlement.specs.Settlement.{mostNumbers};
 
 // A byte more than the longest file that is not refused for its length, so that a longer one is seen to be longer.
-fn file_room() -> [u8; 65537]
-    ensures { λ r. ⌜ 65537 ≡ length r ⌝ }
+const FILE_ROOM: usize = limits::MOST_BYTES + 1;
+
+fn file_room() -> [u8; FILE_ROOM]
+    ensures { λ r. ⌜ mostBytes + 1 ≡ length r ⌝ }
 {
-    [0; 65537]
+    [0; FILE_ROOM]
 }
 
-// The most numbers that a statement takes: 24(3 + 1) for each of seven areas, and 24(3 + 64) for the one CISO.
-fn statement_room() -> [i64; 2280]
-    ensures { λ r. ⌜ 2280 ≡ length r ⌝ }
+fn statement_room() -> [i64; settlement::MOST_NUMBERS]
+    ensures { λ r. ⌜ mostNumbers ≡ length r ⌝ }
 {
-    [0; 2280]
+    [0; settlement::MOST_NUMBERS]
 }
 
 // Word i of some bytes. An accepted file is not asked for a word past its end.
@@ -57,12 +61,12 @@ fn count(word: u32, most: u32) -> usize
 
 // K of an area.
 fn coordinators(body: &[u8]) -> usize
-    ensures { λ r. ⌜ r ≤ 64 ⌝ }
+    ensures { λ r. ⌜ r ≤ mostCoordinators ⌝ }
 {
-    count(word(body, 6), 64)
+    count(word(body, 6), limits::MOST_COORDINATORS as u32)
 }
 
-// A charge is within 10,000,000,000 cents, and a statement has 2,280 numbers at most: the sum does not come near the bound.
+// A charge is within limits::MOST_AMOUNT, and a statement has at most settlement::MOST_NUMBERS: the sum does not come near the bound.
 fn sum(total: i64, charge: i64) -> i64 {
     if 1000000000000000000 < exact::absolute(total) {
         return total;
@@ -95,7 +99,7 @@ fn show_head(file: &[u8]) -> bool {
         & show::end()
 }
 
-fn show_charge(area: u32, coordinator: u32, hour: u8, charge: i64) -> bool {
+fn show_charge(area: u32, coordinator: u32, hour: usize, charge: i64) -> bool {
     show::unsigned(area as u64)
         & show::space()
         & show::unsigned(coordinator as u64)
@@ -110,7 +114,7 @@ fn show_total(total: i64) -> bool {
     show::text(b"total ") & show::signed(total) & show::end()
 }
 
-fn with_charge(before: Printed, area: u32, coordinator: u32, hour: u8, charge: i64) -> Printed {
+fn with_charge(before: Printed, area: u32, coordinator: u32, hour: usize, charge: i64) -> Printed {
     if charge == 0 {
         return before;
     }
@@ -121,7 +125,7 @@ fn with_charge(before: Printed, area: u32, coordinator: u32, hour: u8, charge: i
     }
 }
 
-fn with_hour(before: Printed, area: u32, body: &[u8], hour: u8, charges: &[i64]) -> Printed {
+fn with_hour(before: Printed, area: u32, body: &[u8], hour: usize, charges: &[i64]) -> Printed {
     let n = coordinators(body);
     let mut printed = before;
     let mut i: usize = 0;
@@ -134,22 +138,34 @@ fn with_hour(before: Printed, area: u32, body: &[u8], hour: u8, charges: &[i64])
     printed
 }
 
-// The charges of an hour stand behind its three amounts.
+// The charges of an hour stand behind its amounts.
 fn with_area(before: Printed, area: u32, body: &[u8], block: &[i64]) -> Printed {
     let n = coordinators(body);
     let mut printed = before;
-    let mut at: usize = 3;
-    let mut hour: u8 = 1;
-    while hour <= 24 {
+    let mut at: usize = statement::AMOUNTS_SHOWN;
+    let mut hour: usize = 1;
+    while hour <= limits::DAY_HOURS {
         printed = with_hour(printed, area, body, hour, part(block, at));
-        at += 3 + n;
+        at += statement::hour_numbers(n);
         hour += 1;
     }
     printed
 }
 
+// The bytes of body k. An accepted file has them where its contents say.
+fn body_at(file: &[u8], k: usize) -> &[u8]
+    requires { ⌜ k ≤ mostAreas ⌝ }
+{
+    let from = 4 * (word(file, 5 + 3 * k) as usize);
+    let to = from + 4 * (word(file, 6 + 3 * k) as usize);
+    if file.len() < to {
+        return &file[..0];
+    }
+    &file[from..to]
+}
+
 fn show_charges(file: &[u8], statement: &[i64]) -> Printed {
-    let n = count(word(file, 2), 8);
+    let n = count(word(file, 2), limits::MOST_AREAS as u32);
     let mut printed = Printed {
         written: true,
         total: 0,
@@ -158,9 +174,9 @@ fn show_charges(file: &[u8], statement: &[i64]) -> Printed {
     let mut k: usize = 0;
     while k < n {
         let area = word(file, 4 + 3 * k);
-        let body = dayfile::body_of(file, area);
+        let body = body_at(file, k);
         printed = with_area(printed, area, body, part(statement, at));
-        at += 24 * (3 + coordinators(body));
+        at += statement::area_numbers(coordinators(body));
         k += 1;
     }
     printed

@@ -1,95 +1,87 @@
--- A file that the check accepts is one that settlement can work on.
-use Prim.Native.Nat.{ℕ, zero, suc, _+_, _*_, _≤_, _<_}
-use mathlib.Core.List.{List, [], _∷_, _++_}
-use mathlib.Core.Logic.{⊎-elim}
-use mathlib.Core.Path.{_≡_, refl, sym, ap, _∙_}
-use native.Mathlib.Nat.{eq-or-lt-of-le, le-of-suc-le-suc, add-zero}
+-- A file that the check accepts is one that settlement can work on, and what settling it with other but equal days comes to.
+use Prim.Native.Nat.{ℕ, zero, suc, _≤_, _<_}
+use mathlib.Core.List.{List, _++_}
+use mathlib.Core.Path.{_≡_, refl, ap, ap₂}
 use native.Mathlib.Omega.{arith}
-use lib.ListN.{length, getD, drop, length-append, List·getD-append}
+use lib.ListN.{length, drop}
 use lib.IntN.{ℤ}
-use lib.Seq.{getD-append-add}
 use borrow.Author.Tests.{eq-eqb, ne-eqb}
-use Rattle.limits.specs.Editions.{editionOne}
+use Rattle.limits.specs.declared.Limits.{Limits}
+use Rattle.limits.specs.Ranges.{plainPoints}
+use Rattle.limits.specs.Editions.{limitsOf}
+use Rattle.limits.proofs.Editions.{plain}
 use Rattle.verdict.specs.declared.Verdict.{Verdict}
 use Rattle.verdict.specs.Verdict.{numberOf}
-use Rattle.body.specs.Layout.{daysOf}
-use Rattle.body.specs.Sound.{Sound}
-use Rattle.dayfile.specs.File.{areasOf, bodyAt}
+use Rattle.verdict.proofs.First.{scan-same}
+use Rattle.body.proofs.Kept.{always, sound-more}
+use Rattle.dayfile.specs.File.{editionOf, areasOf, startAt, bodyAt}
 use Rattle.dayfile.specs.Check.{checkOf, checkWithin}
-use Rattle.dayfile.proofs.Facts.{file-head, file-entry, file-sound}
-use Rattle.settlement.specs.SoundFile.{SoundFile}
-use Rattle.settlement.specs.Settlement.{numbersNeeded, statementTo, afterWith, fileDays}
-
--- more load points may be allowed
-sound-more : (m n : ℕ) (body : List ℕ) → m ≤ n → Sound m body → Sound n body
-sound-more m n body h s =
-    record {
-      size = s .size;
-      kind = s .kind;
-      flag = s .flag;
-      days = s .days;
-      hub-a = s .hub-a;
-      hub-b = s .hub-b;
-      points = (s .points .0, omega (arith, s .points .1));
-      coordinators = s .coordinators;
-      coordinator = s .coordinator;
-      deficiency = s .deficiency;
-      requirement = s .requirement;
-      mec = s .mec;
-      quantity = s .quantity;
-      price = s .price;
-      demand = s .demand;
-    }
+use Rattle.dayfile.proofs.Facts.{file-head, file-entry}
+use Rattle.acceptance.proofs.SoundAccepted.{file-sound}
+use Rattle.statement.specs.Block.{block}
+use Rattle.settlement.specs.SoundFile.{SoundFile, DaysKept, Settleable}
+use Rattle.settlement.specs.Settlement.{numbersNeeded, termsAt, hoursRefusal, areaRefusal, areasRefusal, acceptedRule, statementTo, afterWith}
+use Rattle.settlement.specs.Settlement.{listed, daysBy, ownDays}
 
 module _ (file : List ℕ) (accepted : numberOf (checkOf file) ≡ 0) where
-  within : numberOf (checkWithin editionOne file) ≡ 0
+  -- the limits that the file's first word sets
+  abbrev limits : Limits
+  limits = limitsOf (editionOf file)
+
+  pub within : numberOf (checkWithin limits file) ≡ 0
   unfolding checkOf
   within = accepted
 
   pub sound-file : SoundFile file
-  unfolding editionOne
   sound-file =
-      let head = file-head editionOne file within in
+      let head = file-head limits file within in
+      let p = plain (editionOf file) in
       record {
-        few = omega (arith, head .few);
+        few = omega (arith, head .few, p .areas);
         room = head .room;
-        inside = λ k p. omega (arith, file-entry editionOne file within k p .inside);
-        body = λ k p. sound-more 2 32 (bodyAt file k) (omega arith) (file-sound editionOne file within k p);
+        inside = λ k h. omega (arith, file-entry limits file within k h .inside);
+        body = λ k h. sound-more (limits .points) (bodyAt file k) (file-sound limits file within k h) plainPoints (p .points);
       }
 
--- ---- the file's own days
+  -- the file's own days are in range
+  pub own-kept : DaysKept (daysBy ownDays file) file
+  own-kept = record { each = λ k h. sound-file .body k h .days always }
 
-pub days-length : (file : List ℕ) (n : ℕ) → length (fileDays file n) ≡ n
-unfolding fileDays
-days-length file zero = refl
-days-length file (suc n) = length-append (fileDays file n) _ ∙ omega (arith, days-length file n)
+-- ---- other days that are the same for each area of the file
 
-pub days-last : (file : List ℕ) (n : ℕ) → getD (fileDays file n ++ (daysOf (bodyAt file n) ∷ [])) n 0 ≡ daysOf (bodyAt file n)
-days-last file n =
-    ap (λ i. getD (fileDays file n ++ (daysOf (bodyAt file n) ∷ [])) i 0) (sym (days-length file n) ∙ sym (add-zero (length (fileDays file n))))
-    ∙ getD-append-add (fileDays file n) (daysOf (bodyAt file n) ∷ []) 0 0
+module _ (one other : ℕ → ℕ) (file : List ℕ) (same : (k : ℕ) → k < areasOf file → one k ≡ other k) where
+  pub refusals-same : areasRefusal one file ≡ areasRefusal other file
+  unfolding areasRefusal areaRefusal
+  refusals-same =
+      scan-same (areaRefusal one file) (areaRefusal other file) 0 (areasOf file)
+      (λ k h. ap (λ d. hoursRefusal (termsAt (λ _. d) file k) (startAt file k) (bodyAt file k)) (same k (omega (arith, h))))
 
-days-small : (file : List ℕ) → SoundFile file → (n : ℕ) → n ≤ areasOf file → (k : ℕ) → k < n → getD (fileDays file n) k 0 ≤ 30
-unfolding fileDays
-days-small file s zero h k p = absurd (omega arith)
-days-small file s (suc n) h k p =
-    ⊎-elim
-    (λ (e : k ≡ n). rw (e, days-last file n) (s .body n h .days))
-    (λ (l : k < n). rw (List·getD-append (fileDays file n) _ 0 k (omega (arith, days-length file n))) (days-small file s n (omega arith) k l))
-    (eq-or-lt-of-le (le-of-suc-le-suc p))
+  pub rule-same : (room : ℕ) → acceptedRule one file room ≡ acceptedRule other file room
+  unfolding acceptedRule
+  rule-same room = rw refusals-same
 
--- the days of the call are a d for each area, none above 30
-pub days-fit : (file days : List ℕ) (n : ℕ) → SoundFile file → n ≡ areasOf file → days ≡ fileDays file n
-    → (areasOf file ≤ length days) × ((k : ℕ) → k < areasOf file → getD days k 0 ≤ 30)
-days-fit file days n s h e = rw (e, h) (omega (arith, days-length file (areasOf file)), days-small file s (areasOf file) (omega arith))
+  pub statement-same : (n : ℕ) → n ≤ areasOf file → statementTo one file n ≡ statementTo other file n
+  unfolding statementTo
+  statement-same zero h = refl
+  statement-same (suc k) h = ap₂ _++_ (statement-same k (omega arith)) (ap (λ d. block (termsAt (λ _. d) file k) (bodyAt file k)) (same k h))
+
+  pub after-same : (verdict : Verdict) (statement : List ℤ) → afterWith one file verdict statement ≡ afterWith other file verdict statement
+  unfolding afterWith
+  after-same verdict statement = rw (statement-same (areasOf file) (omega arith))
+
+-- a list that has a d in its range for each area
+pub settleable : (list : List ℕ) (days : ℕ → ℕ) (file : List ℕ) → SoundFile file → DaysKept days file → areasOf file ≤ length list
+    → ((k : ℕ) → k < areasOf file → listed list k ≡ days k) → Settleable list file
+settleable list days file sound kept enough is =
+    record { sound = sound; enough = enough; kept = record { each = λ k h. omega (arith, is k h, kept .each k h) } }
 
 -- ---- the statement after a refusal, and after none
 
-module _ (days file : List ℕ) (v : Verdict) (statement : List ℤ) where
+module _ (days : ℕ → ℕ) (file : List ℕ) (v : Verdict) (statement : List ℤ) where
   pub refused : (numberOf v ≡ 0 → ⊥) → statement ≡ afterWith days file v statement
   unfolding afterWith
   refused h = rw (ne-eqb (numberOf v) 0 h)
 
-  pub settled : numberOf v ≡ 0 → statementTo file days (areasOf file) ++ drop (numbersNeeded file) statement ≡ afterWith days file v statement
+  pub settled : numberOf v ≡ 0 → statementTo days file (areasOf file) ++ drop (numbersNeeded file) statement ≡ afterWith days file v statement
   unfolding afterWith
   settled h = rw (eq-eqb (numberOf v) 0 h)

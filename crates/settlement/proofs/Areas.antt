@@ -6,14 +6,16 @@ use native.Mathlib.Decide.{le-ind}
 use native.Mathlib.Nat.{le-refl, le-trans}
 use native.Mathlib.Numerals.{add-one}
 use native.Mathlib.Omega.{arith}
-use lib.ListN.{length, getD, length-append}
+use lib.ListN.{length, length-append}
+use Rattle.limits.specs.Ranges.{dayHours, mostCoordinators}
 use Rattle.body.specs.Layout.{coordinatorsOf}
-use Rattle.dayfile.specs.File.{areasOf, peakOf, startAt, sizeAt, bodyAt}
+use Rattle.body.proofs.Kept.{sound-size}
+use Rattle.dayfile.specs.File.{areasOf, startAt, sizeAt, bodyAt}
 use Rattle.statement.specs.Block.{areaNumbers, block}
-use Rattle.statement.proofs.Demands.{demands-ranged}
+use Rattle.statement.proofs.Demands.{count-few}
 use Rattle.statement.proofs.Hours.{hours-length}
 use Rattle.settlement.specs.SoundFile.{SoundFile}
-use Rattle.settlement.specs.Settlement.{neededTo, statementTo}
+use Rattle.settlement.specs.Settlement.{neededTo, termsAt, statementTo}
 
 module _ (file : List ℕ) where
   pub needed-more : (k : ℕ) → neededTo file (k + 1) ≡ neededTo file k + areaNumbers (coordinatorsOf (bodyAt file k))
@@ -25,7 +27,8 @@ module _ (file : List ℕ) where
   needed-within k n h =
       le-ind (λ m. neededTo file k + areaNumbers (coordinatorsOf (bodyAt file k)) ≤ neededTo file m) (le-refl _) (λ m _ p. le-trans p (omega arith)) n h
 
-  pub statement-more : (days : List ℕ) (k : ℕ) → statementTo file days (k + 1) ≡ statementTo file days k ++ block (peakOf file) (getD days k 0) (bodyAt file k)
+  pub statement-more : (days : ℕ → ℕ) (k : ℕ) → statementTo days file (k + 1)
+      ≡ statementTo days file k ++ block (termsAt days file k) (bodyAt file k)
   unfolding statementTo
   statement-more days k = rw (add-one k)
 
@@ -36,19 +39,19 @@ module _ (file : List ℕ) where
       placed = (omega (arith, sound .room, below), sound .inside k below)
 
       pub head-inside : 28 ≤ length (bodyAt file k)
-      head-inside = omega (arith, sound .body k below .size)
+      head-inside = omega (arith, sound-size _ _ (sound .body k below))
 
-      pub count-few : coordinatorsOf (bodyAt file k) ≤ 64
-      count-few = demands-ranged (bodyAt file k) (sound .body k below) 0 (omega arith) .few
+      pub area-few : coordinatorsOf (bodyAt file k) ≤ mostCoordinators
+      area-few = count-few (bodyAt file k) (sound .body k below)
 
-    pub needed-small : (k : ℕ) → k ≤ areasOf file → neededTo file k ≤ 1608 * k
+    pub needed-small : (k : ℕ) → k ≤ areasOf file → neededTo file k ≤ areaNumbers mostCoordinators * k
     unfolding neededTo
     needed-small zero h = omega arith
-    needed-small (suc k) h = omega (arith, needed-small k (omega arith), count-few k h)
+    needed-small (suc k) h = omega (arith, needed-small k (omega arith), area-few k h)
 
-    pub statement-length : (days : List ℕ) (k : ℕ) → k ≤ areasOf file → length (statementTo file days k) ≡ neededTo file k
+    pub statement-length : (days : ℕ → ℕ) (k : ℕ) → k ≤ areasOf file → length (statementTo days file k) ≡ neededTo file k
     unfolding statementTo neededTo
     statement-length days zero h = refl
     statement-length days (suc k) h =
-        length-append (statementTo file days k) (block (peakOf file) (getD days k 0) (bodyAt file k))
-        ∙ omega (arith, statement-length days k (omega arith), hours-length (peakOf file) (getD days k 0) (bodyAt file k) (sound .body k h) 24 (omega arith))
+        length-append (statementTo days file k) (block (termsAt days file k) (bodyAt file k))
+        ∙ omega (arith, statement-length days k (omega arith), hours-length (termsAt days file k) (bodyAt file k) (sound .body k h) dayHours (omega arith))

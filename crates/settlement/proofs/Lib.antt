@@ -1,5 +1,6 @@
 pub mod Areas
 pub mod Accepted
-pub mod Figures
 pub mod Places
 pub mod Room
+pub mod Stands
+pub mod Shown

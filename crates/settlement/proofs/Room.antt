@@ -9,17 +9,17 @@ use borrow.Author.Tests.{le-leb, lt-leb, leb-true, leb-false}
 use Rattle.verdict.specs.Verdict.{numberOf}
 use Rattle.verdict.proofs.First.{kept, or-first, or-second, or-same}
 use Rattle.dayfile.specs.Check.{checkOf}
-use Rattle.settlement.specs.Settlement.{mostNumbers, numbersNeeded, areasRule, acceptedRule, settleWith}
+use Rattle.settlement.specs.Settlement.{mostNumbers, numbersNeeded, areasRefusal, acceptedRule, settleWith}
 use Rattle.settlement.proofs.Places.{needed-most}
 
-module _ (days file : List ℕ) where
+module _ (days : ℕ → ℕ) (file : List ℕ) where
   pub check-accepts : (room : ℕ) → numberOf (settleWith days file room) ≡ 0 → numberOf (checkOf file) ≡ 0
   unfolding settleWith
   check-accepts room z = or-first _ _ z
 
   pub room-enough : (room : ℕ) → numberOf (settleWith days file room) ≡ 0 → numbersNeeded file ≤ room
   unfolding settleWith acceptedRule
-  room-enough room z = leb-true _ _ (kept (leb (numbersNeeded file) room) _ (areasRule days file) (λ q. omega arith) (or-second (checkOf file) _ z) .0)
+  room-enough room z = leb-true _ _ (kept (leb (numbersNeeded file) room) _ (areasRefusal days file) (λ q. omega arith) (or-second (checkOf file) _ z) .0)
 
   cut : (needed room : ℕ) → needed ≤ mostNumbers → leb needed (min room mostNumbers) ≡ leb needed room
   cut needed room h = by (leb needed room) refl

@@ -1,2 +1,3 @@
-pub mod SoundFile
 pub mod Settlement
+pub mod SoundFile
+pub mod Shown

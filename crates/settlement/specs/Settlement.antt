@@ -1,24 +1,32 @@
--- The settlement of a day file: the numbers needed, the statement, and the first refusal. `days` has the persistent days d of each area, in file order.
-use Prim.Native.Nat.{ℕ, zero, suc, _+_, _*_}
+-- The settlement of a day file (docs/RULES.md, sections 9 and 10): the numbers needed, the statement, and the first refusal.
+-- `days k` is the persistent days d that area k is settled with.
+use Prim.Native.Nat.{ℕ, zero, suc, _+_, _*_, _-_, _/_}
 use mathlib.Core.Bool.{Bool, cond, not, _||_}
-use mathlib.Core.List.{List, [], _∷_, _++_}
+use mathlib.Core.List.{List, [], _++_}
 use lib.Dec.{eqb, leb, ltb}
 use lib.IntN.{ℤ, natAbs}
 use lib.ListN.{getD, drop}
+use Rattle.exact.specs.Total.{total}
+use Rattle.limits.specs.Ranges.{dayHours, mostCoordinators}
+use Rattle.limits.specs.Editions.{mostAreas, mostBytes}
 use Rattle.verdict.specs.declared.Verdict.{Verdict}
-use Rattle.verdict.specs.declared.Verdict.the-variants.{Accepted, PriceWithoutQuantity, AmountWithoutDemand, RoomTooShort}
+use Rattle.verdict.specs.declared.Verdict.the-variants.{Accepted, AmountWithoutDemand, RoomTooShort}
 use Rattle.verdict.specs.Verdict.{numberOf}
 use Rattle.verdict.specs.First.{rule_else_then_, _orElse_, scan}
-use Rattle.hour.specs.Layout.{runningDemand}
-use Rattle.body.specs.Layout.{kindOf, daysOf, coordinatorsOf, intervalsAt, demandsAt}
-use Rattle.dayfile.specs.File.{areasOf, peakOf, startAt, bodyAt}
+use Rattle.body.specs.Layout.{kindOf, daysOf, coordinatorsOf, demandsAt, demandsOf}
+use Rattle.dayfile.specs.File.{areasOf, peakOf, numberAt, startAt, bodyAt}
 use Rattle.dayfile.specs.Check.{checkOf}
-use Rattle.amounts.specs.Amounts.{amountAt, priceMissing}
+use Rattle.surcharge.specs.declared.Terms.{Terms}
+use Rattle.amounts.specs.Amounts.{amountAt, priceRule}
 use Rattle.statement.specs.Block.{areaNumbers, block}
 
--- the numbers of the longest statement: eight areas, one of them CISO with 64 coordinators
+-- the numbers of the longest statement of any edition: one area is CISO with the most coordinators, every other has one
 abbrev pub mostNumbers : ℕ
-mostNumbers = 2280
+mostNumbers = areaNumbers mostCoordinators + (mostAreas - 1) * areaNumbers 1
+
+-- the largest place of a refusal: the words of the longest file
+abbrev pub mostPlace : ℕ
+mostPlace = mostBytes / 4
 
 module _ (file : List ℕ) where
   -- the numbers of the first n areas
@@ -30,37 +38,44 @@ module _ (file : List ℕ) where
   abbrev pub numbersNeeded : ℕ
   numbersNeeded = neededTo (areasOf file)
 
+-- ---- the refusals of an hour
+
+-- there is somebody to charge: not so for "kind 1, A not 0, T = 0"
+unfoldable pub chargeable : Terms → List ℕ → ℕ → Bool
+chargeable terms body h = not (eqb (kindOf body) 1) || (eqb (natAbs (amountAt terms body h)) 0 || ltb 0 (total (demandsOf body h)))
+
+unfoldable pub chargeRule : Terms → (start : ℕ) → List ℕ → ℕ → Verdict
+chargeRule terms start body h = rule chargeable terms body h else AmountWithoutDemand (start + demandsAt body h) then Accepted
+
+-- "11 before 12"
+unfoldable pub hourRefusal : Terms → (start : ℕ) → List ℕ → ℕ → Verdict
+hourRefusal terms start body h = priceRule terms start body h orElse chargeRule terms start body h
+
+unfoldable pub hoursRefusal : Terms → (start : ℕ) → List ℕ → Verdict
+hoursRefusal terms start body = scan (hourRefusal terms start body) 0 dayHours
+
+-- ---- the file
+
+module _ (days : ℕ → ℕ) (file : List ℕ) where
+  -- what area k's day is settled under
+  abbrev pub termsAt : ℕ → Terms
+  termsAt k = record { peak = peakOf file; days = days k }
+
   -- the blocks of the first n areas, in file order
-  unfoldable pub statementTo : List ℕ → ℕ → List ℤ
-  statementTo days zero = []
-  statementTo days (suc k) = statementTo days k ++ block (peakOf file) (getD days k 0) (bodyAt file k)
+  unfoldable pub statementTo : ℕ → List ℤ
+  statementTo zero = []
+  statementTo (suc k) = statementTo k ++ block (termsAt k) (bodyAt file k)
 
--- there is somebody to charge: not so for kind 1, A not 0, T = 0
-unfoldable pub chargeable : List ℕ → (peak days h : ℕ) → Bool
-chargeable body peak days h =
-    not (eqb (kindOf body) 1)
-    || (eqb (natAbs (amountAt body peak days h)) 0 || ltb 0 (runningDemand body (demandsAt body h) (coordinatorsOf body)))
+  unfoldable pub areaRefusal : ℕ → Verdict
+  areaRefusal k = hoursRefusal (termsAt k) (startAt file k) (bodyAt file k)
 
--- 11, then 12, of hour h
-unfoldable pub hourRule : (peak days start : ℕ) → List ℕ → ℕ → Verdict
-hourRule peak days start body h =
-    rule not (priceMissing body peak h) else PriceWithoutQuantity (start + intervalsAt body h) then
-    rule chargeable body peak days h else AmountWithoutDemand (start + demandsAt body h) then
-    Accepted
-
-unfoldable pub hoursRule : (peak days start : ℕ) → List ℕ → Verdict
-hoursRule peak days start body = scan (hourRule peak days start body) 0 24
-
-module _ (days : List ℕ) (file : List ℕ) where
-  unfoldable pub areaRule : ℕ → Verdict
-  areaRule k = hoursRule (peakOf file) (getD days k 0) (startAt file k) (bodyAt file k)
-
-  unfoldable pub areasRule : Verdict
-  areasRule = scan areaRule 0 (areasOf file)
+  -- "areas and hours in order"
+  unfoldable pub areasRefusal : Verdict
+  areasRefusal = scan areaRefusal 0 (areasOf file)
 
   -- of a file that the check accepts: 13, then areas and hours in order
   unfoldable pub acceptedRule : ℕ → Verdict
-  acceptedRule room = rule leb (numbersNeeded file) room else RoomTooShort (numbersNeeded file) then areasRule
+  acceptedRule room = rule leb (numbersNeeded file) room else RoomTooShort (numbersNeeded file) then areasRefusal
 
   -- the check's 1 to 10 before that
   unfoldable pub settleWith : ℕ → Verdict
@@ -68,15 +83,35 @@ module _ (days : List ℕ) (file : List ℕ) where
 
   -- the statement afterwards: a refusal leaves it as it was, numbers past the needed ones stay
   unfoldable pub afterWith : Verdict → List ℤ → List ℤ
-  afterWith verdict statement = cond (eqb (numberOf verdict) 0) (statementTo file days (areasOf file) ++ drop (numbersNeeded file) statement) statement
+  afterWith verdict statement = cond (eqb (numberOf verdict) 0) (statementTo (areasOf file) ++ drop (numbersNeeded file) statement) statement
 
--- the file's own persistent days of the first n areas
-unfoldable pub fileDays : List ℕ → ℕ → List ℕ
-fileDays file zero = []
-fileDays file (suc k) = fileDays file k ++ (daysOf (bodyAt file k) ∷ [])
+-- the d of each area in a list, one for each area
+abbrev pub listed : List ℕ → ℕ → ℕ
+listed days k = getD days k 0
+
+-- ---- under any d: a function of an area's number and its body
+
+module _ (d : ℕ → List ℕ → ℕ) where
+  abbrev pub daysBy : List ℕ → ℕ → ℕ
+  daysBy file k = d (numberAt file k) (bodyAt file k)
+
+  -- what area k's day is settled under
+  abbrev pub termsBy : List ℕ → ℕ → Terms
+  termsBy file k = termsAt (daysBy file) file k
+
+  abbrev pub settleBy : List ℕ → ℕ → Verdict
+  settleBy file room = settleWith (daysBy file) file room
+
+  abbrev pub afterBy : Verdict → List ℕ → List ℤ → List ℤ
+  afterBy verdict file statement = afterWith (daysBy file) file verdict statement
+
+-- ---- the file's own d
+
+abbrev pub ownDays : ℕ → List ℕ → ℕ
+ownDays number body = daysOf body
 
 abbrev pub settleOf : List ℕ → ℕ → Verdict
-settleOf file room = settleWith (fileDays file (areasOf file)) file room
+settleOf file room = settleBy ownDays file room
 
 abbrev pub after : Verdict → List ℕ → List ℤ → List ℤ
-after verdict file statement = afterWith (fileDays file (areasOf file)) file verdict statement
+after verdict file statement = afterBy ownDays verdict file statement

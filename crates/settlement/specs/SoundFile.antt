@@ -1,12 +1,25 @@
--- What settlement asks of a file, with no limit of an edition in it: its contents and bodies lie within it, and every body is sound.
+-- What settlement asks of a file, with no limit of an edition in it: its contents and bodies lie within it, and every body is sound; and of the persistent
+-- days that it is settled with: a d for each area, in its range.
 use Prim.Native.Nat.{ℕ, _+_, _*_, _/_, _≤_, _<_}
 use mathlib.Core.List.{List}
 use lib.ListN.{length}
-use Rattle.body.specs.Sound.{Sound}
+use Rattle.limits.specs.Ranges.{mostDays, plainAreas, plainPoints}
+use Rattle.body.specs.Kept.{Sound}
 use Rattle.dayfile.specs.File.{areasOf, startAt, sizeAt, bodyAt}
+use Rattle.settlement.specs.Settlement.{listed}
 
 pub record SoundFile (file : List ℕ) : Type 0 where
-  pub few : areasOf file ≤ 32
+  pub few : areasOf file ≤ plainAreas
   pub room : 4 + 3 * areasOf file ≤ length file / 4
   pub inside : (k : ℕ) → k < areasOf file → 4 * startAt file k + 4 * sizeAt file k ≤ length file
-  pub body : (k : ℕ) → k < areasOf file → Sound 32 (bodyAt file k)
+  pub body : (k : ℕ) → k < areasOf file → Sound plainPoints (bodyAt file k)
+
+-- each area of the file has a d in its range
+pub record DaysKept (days : ℕ → ℕ) (file : List ℕ) : Type 0 where
+  pub each : (k : ℕ) → k < areasOf file → days k ≤ mostDays
+
+-- a sound file, with a list of a d for each area
+pub record Settleable (days file : List ℕ) : Type 0 where
+  pub sound : SoundFile file
+  pub enough : areasOf file ≤ length days
+  pub kept : DaysKept (listed days) file

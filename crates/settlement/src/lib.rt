@@ -1,17 +1,26 @@
 // Settles a day file into a lent statement: the numbers needed, the first refusal, and the writing, which can refuse nothing.
 use surcharge::Day;
+use surcharge::Terms;
 use verdict::Verdict;
 ghost use mathlib.Core.Path.{_≡_};
 ghost use mathlib.Core.List.{_++_};
 ghost use Prim.Native.Nat.{ℕ, _+_, _*_, _≤_, _<_};
-ghost use lib.ListN.{length, take, drop, getD};
-ghost use Rattle.hour.specs.Layout.{runningDemand};
-ghost use Rattle.body.specs.Layout.{hourAt};
-ghost use Rattle.body.specs.Sound.{Sound};
+ghost use lib.ListN.{length, drop};
+ghost use Rattle.exact.specs.Total.{total};
+ghost use Rattle.words.specs.Bytes.{wordsFrom};
+ghost use Rattle.limits.specs.Ranges.{mostDemand, plainPoints};
+ghost use Rattle.body.specs.Kept.{Sound};
 ghost use Rattle.dayfile.specs.File.{areasOf, peakOf};
-ghost use Rattle.amounts.specs.Amounts.{dayOf};
-ghost use Rattle.settlement.specs.SoundFile.{SoundFile};
-ghost use Rattle.settlement.specs.Settlement.{neededTo, statementTo, chargeable, hourRule, hoursRule, areasRule, fileDays, acceptedRule, afterWith, settleOf, after};
+ghost use Rattle.surcharge.specs.Ranges.{TermsKept};
+ghost use Rattle.amounts.specs.Ranges.{AtHour};
+ghost use Rattle.settlement.specs.SoundFile.{SoundFile, Settleable};
+ghost use Rattle.settlement.specs.Settlement.{neededTo, statementTo, chargeable, chargeRule, hourRefusal, hoursRefusal, areasRefusal, listed};
+ghost use Rattle.settlement.specs.Settlement.{daysBy, ownDays, acceptedRule, afterWith, settleOf, after};
+
+// The numbers of the longest statement of any edition: one area is CISO with the most coordinators, every other has one.
+pub const MOST_NUMBERS: usize = limits::DAY_HOURS
+    * (statement::AMOUNTS_SHOWN + limits::MOST_COORDINATORS)
+    + (limits::MOST_AREAS - 1) * (limits::DAY_HOURS * (statement::AMOUNTS_SHOWN + 1));
 
 // How many numbers the statement of n areas takes.
 pub fn numbers_needed(file: &[u8], n: usize) -> usize
@@ -22,7 +31,7 @@ pub fn numbers_needed(file: &[u8], n: usize) -> usize
     let mut k: usize = 0;
     while k < n {
         let count = words::word(dayfile::body_at(file, k), 6) as usize;
-        needed += 24 * (3 + count);
+        needed += statement::area_numbers(count);
         k += 1;
     }
     needed
@@ -30,105 +39,117 @@ pub fn numbers_needed(file: &[u8], n: usize) -> usize
 
 // The blocks of n areas, each lent its own part of the statement.
 fn write_areas(peak: u32, days: &[u32], file: &[u8], n: usize, statement: &mut [i64])
-    requires { ⌜ (SoundFile (now file)) × ((n ≡ areasOf (now file)) × (peak ≡ peakOf (now file))) ⌝ }
-    requires { ⌜ (n ≤ length (now days)) × ((k : ℕ) → k < n → getD (now days) k 0 ≤ 30) ⌝ }
+    requires { ⌜ (Settleable (now days) (now file)) × ((n ≡ areasOf (now file)) × (peak ≡ peakOf (now file))) ⌝ }
     requires { ⌜ neededTo (now file) n ≤ length (now statement) ⌝ }
-    ensures { λ _. ⌜ now (statement .exit) ≡ statementTo (now (file .entry)) (now (days .entry)) n ++ drop (neededTo (now (file .entry)) n) (now (statement .entry)) ⌝ }
+    ensures { λ _. ⌜ now (statement .exit) ≡ statementTo (listed (now (days .entry))) (now (file .entry)) n
+        ++ drop (neededTo (now (file .entry)) n) (now (statement .entry)) ⌝ }
 {
     let mut to: usize = 0;
     let mut k: usize = 0;
     while k < n {
+        let terms = Terms {
+            peak,
+            days: days[k],
+        };
         let body = dayfile::body_at(file, k);
-        statement::write_area(peak, days[k], body, &mut statement[to..]);
-        to += 24 * (3 + (words::word(body, 6) as usize));
+        statement::write_area(terms, body, &mut statement[to..]);
+        to += statement::area_numbers(words::word(body, 6) as usize);
         k += 1;
     }
 }
 
 // T of an hour: the sum of its demands.
 fn total_demand(body: &[u8], from: usize, count: usize) -> u32
-    requires { ⌜ (4 * (from + count) ≤ length (now body)) × ((i : ℕ) → i ≤ count → runningDemand (now body) from i ≤ 100000000) ⌝ }
-    ensures { λ r. ⌜ r ≡ runningDemand (now (body .entry)) from count ⌝ }
+    requires { ⌜ (4 * (from + count) ≤ length (now body)) × ((i : ℕ) → i ≤ count → total (wordsFrom (now body) from i) ≤ mostDemand) ⌝ }
+    ensures { λ r. ⌜ r ≡ total (wordsFrom (now (body .entry)) from count) ⌝ }
 {
-    let mut total: u32 = 0;
+    let mut sum: u32 = 0;
     let mut i: usize = 0;
     while i < count {
-        total += words::word(body, from + i);
+        sum += words::word(body, from + i);
         i += 1;
     }
-    total
+    sum
 }
 
 // Whether there is somebody to charge for hour h. The amounts are only asked for where there is no demand.
-fn chargeable_hour(peak: u32, day: Day, body: &[u8], h: usize, at: usize) -> bool
-    requires { ⌜ (Sound 32 (now body)) × ((h < 24) × (at ≡ hourAt (now body) h)) ⌝ }
-    requires { ⌜ (day ≡ dayOf peak (day .days) (now body)) × (day .days ≤ 30) ⌝ }
-    ensures { λ r. ⌜ r ≡ chargeable (now (body .entry)) peak (day .days) h ⌝ }
+fn chargeable_hour(terms: Terms, day: Day, body: &[u8], h: usize, at: usize) -> bool
+    requires { ⌜ AtHour terms day (now body) h at ⌝ }
+    ensures { λ r. ⌜ r ≡ chargeable terms (now (body .entry)) h ⌝ }
 {
     if words::word(body, 0) != 1 {
         return true;
     }
     let load = words::word(body, 5) as usize;
     let count = words::word(body, 6) as usize;
-    let total = total_demand(body, at + 8 + 24 * load, count);
-    if 0 < total {
+    let demand = total_demand(body, at + 8 + 24 * load, count);
+    if 0 < demand {
         return true;
     }
-    let amount = statement::amount_of(amounts::hour_amounts(peak, day, body, h, at));
-    shares::shareable(amount.0, total)
+    let amount = amounts::amount_of(amounts::hour_amounts(terms, day, body, h, at));
+    shares::shareable(amount.0, demand)
 }
 
-// The first of 11 and 12 that hour h breaks, in the body that starts at word `start` of the file.
-fn check_hour(peak: u32, day: Day, start: usize, body: &[u8], h: usize, at: usize) -> Verdict
-    requires { ⌜ (Sound 32 (now body)) × ((h < 24) × (at ≡ hourAt (now body) h)) ⌝ }
-    requires { ⌜ (day ≡ dayOf peak (day .days) (now body)) × ((day .days ≤ 30) × (start < 4294967296)) ⌝ }
-    ensures { λ r. ⌜ r ≡ hourRule peak (day .days) start (now (body .entry)) h ⌝ }
+// What charging hour h refuses, in the body that starts at word `start` of the file.
+fn check_charge(terms: Terms, day: Day, start: usize, body: &[u8], h: usize, at: usize) -> Verdict
+    requires { ⌜ (AtHour terms day (now body) h at) × (start < 4294967296) ⌝ }
+    ensures { λ r. ⌜ r ≡ chargeRule terms start (now (body .entry)) h ⌝ }
 {
-    if amounts::price_missing(peak, day, body, h, at) {
-        return Verdict::PriceWithoutQuantity {
-            place: start + (at + 8),
-        };
+    if chargeable_hour(terms, day, body, h, at) {
+        return Verdict::Accepted;
     }
-    if !chargeable_hour(peak, day, body, h, at) {
-        let load = words::word(body, 5) as usize;
-        return Verdict::AmountWithoutDemand {
-            place: start + (at + 8 + 24 * load),
-        };
+    let load = words::word(body, 5) as usize;
+    Verdict::AmountWithoutDemand {
+        place: start + (at + 8 + 24 * load),
     }
-    Verdict::Accepted
 }
 
-// The first of 11 and 12 among the hours of an area.
-fn check_area(peak: u32, days: u32, start: usize, body: &[u8]) -> Verdict
-    requires { ⌜ (Sound 32 (now body)) × ((days ≤ 30) × (start < 4294967296)) ⌝ }
-    ensures { λ r. ⌜ r ≡ hoursRule peak days start (now (body .entry)) ⌝ }
+// The first refusal of hour h, in the body that starts at word `start` of the file.
+fn check_hour(terms: Terms, day: Day, start: usize, body: &[u8], h: usize, at: usize) -> Verdict
+    requires { ⌜ (AtHour terms day (now body) h at) × (start < 4294967296) ⌝ }
+    ensures { λ r. ⌜ r ≡ hourRefusal terms start (now (body .entry)) h ⌝ }
 {
-    let day = amounts::day_facts(peak, days, body);
+    let first = amounts::check_price(terms, day, start, body, h, at);
+    if verdict::number(first) != 0 {
+        return first;
+    }
+    check_charge(terms, day, start, body, h, at)
+}
+
+// The first refusal among the hours of an area.
+fn check_area(terms: Terms, start: usize, body: &[u8]) -> Verdict
+    requires { ⌜ (TermsKept terms) × ((Sound plainPoints (now body)) × (start < 4294967296)) ⌝ }
+    ensures { λ r. ⌜ r ≡ hoursRefusal terms start (now (body .entry)) ⌝ }
+{
+    let day = amounts::day_facts(terms, body);
     let load = words::word(body, 5) as usize;
     let count = words::word(body, 6) as usize;
-    let mut at = 7 + count;
+    let mut at = body::first_hour(load, count);
     let mut h: usize = 0;
-    while h < 24 {
-        let v = check_hour(peak, day, start, body, h, at);
+    while h < limits::DAY_HOURS {
+        let v = check_hour(terms, day, start, body, h, at);
         if verdict::number(v) != 0 {
             return v;
         }
-        at += 8 + 24 * load + count;
+        at = body::next_hour(load, count, h, at);
         h += 1;
     }
     Verdict::Accepted
 }
 
-// The first of 11 and 12 among areas and hours in order.
+// The first refusal among areas and hours in order.
 fn check_areas(peak: u32, days: &[u32], file: &[u8], n: usize) -> Verdict
-    requires { ⌜ (SoundFile (now file)) × ((n ≡ areasOf (now file)) × (peak ≡ peakOf (now file))) ⌝ }
-    requires { ⌜ (n ≤ length (now days)) × ((k : ℕ) → k < n → getD (now days) k 0 ≤ 30) ⌝ }
-    ensures { λ r. ⌜ r ≡ areasRule (now (days .entry)) (now (file .entry)) ⌝ }
+    requires { ⌜ (Settleable (now days) (now file)) × ((n ≡ areasOf (now file)) × (peak ≡ peakOf (now file))) ⌝ }
+    ensures { λ r. ⌜ r ≡ areasRefusal (listed (now (days .entry))) (now (file .entry)) ⌝ }
 {
     let mut k: usize = 0;
     while k < n {
+        let terms = Terms {
+            peak,
+            days: days[k],
+        };
         let start = words::word(file, 4 + 3 * k + 1) as usize;
-        let v = check_area(peak, days[k], start, dayfile::body_at(file, k));
+        let v = check_area(terms, start, dayfile::body_at(file, k));
         if verdict::number(v) != 0 {
             return v;
         }
@@ -138,11 +159,11 @@ fn check_areas(peak: u32, days: &[u32], file: &[u8], n: usize) -> Verdict
 }
 
 // The file's own persistent days of n areas.
-fn file_days(file: &[u8], n: usize) -> [u32; 32]
+fn file_days(file: &[u8], n: usize) -> [u32; limits::PLAIN_AREAS]
     requires { ⌜ (SoundFile (now file)) × (n ≡ areasOf (now file)) ⌝ }
-    ensures { λ r. ⌜ take n r ≡ fileDays (now (file .entry)) n ⌝ }
+    ensures { λ r. ⌜ ((k : ℕ) → k < areasOf (now (file .entry)) → listed r k ≡ daysBy ownDays (now (file .entry)) k) ⌝ }
 {
-    let mut days = [0u32; 32];
+    let mut days = [0u32; limits::PLAIN_AREAS];
     let mut k: usize = 0;
     while k < n {
         days[k] = words::word(dayfile::body_at(file, k), 2);
@@ -151,11 +172,11 @@ fn file_days(file: &[u8], n: usize) -> [u32; 32]
     days
 }
 
-// Past the check: 13, then 11 and 12, and where nothing is refused the statement. `days` has a d for each area.
+// Past the check: 13, then areas and hours in order, and where nothing is refused the statement. `days` has a d for each area.
 fn settle_accepted(days: &[u32], file: &[u8], statement: &mut [i64]) -> Verdict
-    requires { ⌜ (SoundFile (now file)) × ((areasOf (now file) ≤ length (now days)) × ((k : ℕ) → k < areasOf (now file) → getD (now days) k 0 ≤ 30)) ⌝ }
-    ensures { λ r. ⌜ r ≡ acceptedRule (now (days .entry)) (now (file .entry)) (length (now (statement .entry))) ⌝ }
-    ensures { λ r. ⌜ now (statement .exit) ≡ afterWith (now (days .entry)) (now (file .entry)) r (now (statement .entry)) ⌝ }
+    requires { ⌜ Settleable (now days) (now file) ⌝ }
+    ensures { λ r. ⌜ r ≡ acceptedRule (listed (now (days .entry))) (now (file .entry)) (length (now (statement .entry))) ⌝ }
+    ensures { λ r. ⌜ now (statement .exit) ≡ afterWith (listed (now (days .entry))) (now (file .entry)) r (now (statement .entry)) ⌝ }
 {
     let n = words::word(file, 2) as usize;
     let peak = words::word(file, 3);
@@ -171,7 +192,7 @@ fn settle_accepted(days: &[u32], file: &[u8], statement: &mut [i64]) -> Verdict
     v
 }
 
-// Checks the whole file, then settles it into `statement`: area after area, 24 hours of 3 + K numbers each. A
+// Checks the whole file, then settles it into `statement`: area after area, 24 hours of its amounts and K charges each. A
 // refusal leaves the statement as it was.
 pub fn settle(file: &[u8], statement: &mut [i64]) -> Verdict
     ensures { λ r. ⌜ r ≡ settleOf (now (file .entry)) (length (now (statement .entry))) ⌝ }
@@ -183,5 +204,5 @@ pub fn settle(file: &[u8], statement: &mut [i64]) -> Verdict
     }
     let n = words::word(file, 2) as usize;
     let days = file_days(file, n);
-    settle_accepted(&days[..n], file, statement)
+    settle_accepted(&days, file, statement)
 }

@@ -7,7 +7,8 @@ use native.Mathlib.Nat.{add-zero, zero-add, add-assoc}
 use lib.IntN.{ℤ, pos, _-ℤ_, +ℤ-invr, +ℤ-idr, zero-*ℤ}
 use Rattle.exact.proofs.Difference.{two-steps}
 use Rattle.exact.proofs.Round.{round-exact, round-zero}
-use Rattle.shares.specs.Shares.{total, upTo, sharesFrom, shares, sum}
+use Rattle.exact.specs.Total.{total}
+use Rattle.shares.specs.Shares.{upTo, sharesFrom, shares, sum}
 use Rattle.shares.proofs.Sharing.{up-to-zero}
 
 pub sum-from : (amount : ℤ) (t c : ℕ) (ds : List ℕ) → sum (sharesFrom amount t c ds) ≡ upTo amount t (c + total ds) -ℤ upTo amount t c

@@ -4,7 +4,8 @@ use mathlib.Core.Path.{_≡_, refl, ap}
 use Prim.Native.Nat.{ℕ, suc, _+_}
 use lib.IntN.{ℤ}
 use lib.ListN.{length}
-use Rattle.shares.specs.Shares.{total, sharesFrom, shares}
+use Rattle.exact.specs.Total.{total}
+use Rattle.shares.specs.Shares.{sharesFrom, shares}
 
 from-length : (amount : ℤ) (t c : ℕ) (demands : List ℕ) → length (sharesFrom amount t c demands) ≡ length demands
 unfolding sharesFrom

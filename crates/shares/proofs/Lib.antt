@@ -1,9 +1,8 @@
-pub mod Totals
 pub mod SomeDemand
+pub mod Turned
 pub mod Sharing
 pub mod AddsUp
 pub mod WithinACent
-pub mod Turned
 pub mod Merged
 pub mod Nothing
 pub mod Length

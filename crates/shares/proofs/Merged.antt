@@ -2,14 +2,20 @@
 -- ("100 cents over 1, 1, 1: 33, 34, 33; the first two merged: 67, 33")
 use mathlib.Core.Path.{_≡_, refl, sym, ap, ap₂, _∙_}
 use mathlib.Core.List.{List, [], _∷_, _++_}
-use Prim.Native.Nat.{ℕ, zero, suc, _+_}
+use Prim.Native.Nat.{ℕ, zero, suc, _+_, _≤_}
 use native.Mathlib.Nat.{add-zero, add-assoc}
+use native.Mathlib.Omega.{arith}
 use lib.IntN.{ℤ}
-use lib.ListN.{take, drop, take-append-drop}
-use lib.Seq.{drop-drop}
-use Rattle.shares.specs.Shares.{total, sharesFrom, shares, sum, mergedAt}
-use Rattle.shares.proofs.Totals.{total-append}
+use lib.ListN.{length, take, drop, length-append, length-drop, take-append-drop}
+use lib.Seq.{drop-drop, length-take-le}
+use Rattle.exact.specs.Total.{total}
+use Rattle.shares.specs.Shares.{sharesFrom, shares, sum, mergedAt}
+use Rattle.exact.proofs.Totals.{total-append}
 use Rattle.shares.proofs.AddsUp.{sum-from}
+
+-- n neighbours merged are one
+pub merged-length : {X : Type 0} (add : List X → X) (i n : ℕ) (xs : List X) → i + n ≤ length xs → length (mergedAt add i n xs) + n ≡ length xs + 1
+merged-length add i n xs inside = rw (length-append (take i xs), length-take-le i xs (omega arith), length-drop (i + n) xs) (omega arith)
 
 module _ (amount : ℤ) (t : ℕ) where
   from-append : (c : ℕ) (xs ys : List ℕ) → sharesFrom amount t c (xs ++ ys) ≡ sharesFrom amount t c xs ++ sharesFrom amount t (c + total xs) ys

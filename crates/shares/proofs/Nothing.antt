@@ -5,7 +5,8 @@ use Prim.Native.Nat.{ℕ, _+_}
 use lib.IntN.{pos, zero-*ℤ}
 use lib.ListN.{length, replicate}
 use Rattle.exact.proofs.Round.{round-zero}
-use Rattle.shares.specs.Shares.{total, sharesFrom, shares}
+use Rattle.exact.specs.Total.{total}
+use Rattle.shares.specs.Shares.{sharesFrom, shares}
 
 from-nothing : (t c : ℕ) (ds : List ℕ) → sharesFrom (pos 0) t c ds ≡ replicate (length ds) (pos 0)
 unfolding sharesFrom

@@ -1,19 +1,40 @@
 -- R(A × C / T), and what the loop of `share_demands` holds: i charges are written, up to running demand c.
 use mathlib.Core.Path.{_≡_}
 use mathlib.Core.List.{List, _++_}
-use Prim.Native.Nat.{ℕ, _+_, _≤_, _<_}
-use native.Mathlib.Nat.{le-trans}
+use Prim.Native.Nat.{ℕ, suc, _+_, _*_, _≤_, _<_, _^_}
+use native.Mathlib.Nat.{mul-add, mul-le-mul}
 use native.Mathlib.Omega.{arith}
-use lib.IntN.{ℤ, pos, natAbs, _-ℤ_, _*ℤ_, *ℤ-zero}
+use lib.IntN.{ℤ, pos, negsuc, natAbs, _-ℤ_, *ℤ-zero}
 use lib.ListN.{length, getD, drop, set, length-set, drop-of-length-le}
-use Rattle.exact.proofs.Magnitude.{abs-mul≤}
+use Rattle.exact.specs.Round.{roundDiv, halfUp}
+use Rattle.exact.proofs.Magnitude.{abs-neg}
+use Rattle.exact.proofs.Difference.{minus-sub, abs-sub-lt}
 use Rattle.exact.proofs.Round.{abs-round, round-zero}
 use Rattle.exact.proofs.Filling.{Filling, fill-start, fill-step, fill-end, drop-next}
-use Rattle.shares.specs.Shares.{total, upTo, sharesFrom}
-use Rattle.shares.proofs.Totals.{total-drop}
+use Rattle.exact.specs.Total.{total}
+use Rattle.exact.proofs.Totals.{total-drop}
+use Rattle.limits.specs.Ranges.{mostDemand, mostAmount}
+use Rattle.shares.specs.Shares.{upTo, sharesFrom}
+use Rattle.shares.proofs.Turned.{step-neg}
 
-pub up-to-within : (amount : ℤ) (t c : ℕ) → natAbs amount ≤ 10000000000 → c ≤ 100000000 → natAbs (upTo amount t c) ≤ 1000000000000000000
-up-to-within amount t c h k = le-trans (abs-round (amount *ℤ pos c) t) (abs-mul≤ 10000000000 100000000 amount (pos c) h k)
+-- an amount and a total in range: their product fits 64 bits
+pub share-fits : (amount : ℤ) (t : ℕ) → natAbs amount ≤ mostAmount → t ≤ mostDemand → natAbs amount * t < 2 ^ 63
+share-fits amount t h k = omega (arith, mul-le-mul h k)
+
+charge-pos : (bound a t c d : ℕ) → a * (c + d) < bound → natAbs (upTo (pos a) t (c + d) -ℤ upTo (pos a) t c) < bound
+unfolding roundDiv
+charge-pos bound a t c d h =
+    let x = halfUp (a * (c + d)) t in
+    let y = halfUp (a * c) t in
+    rw (minus-sub x y) (abs-sub-lt x y bound (omega (arith, abs-round (pos (a * (c + d))) t)) (omega (arith, mul-add a c d, abs-round (pos (a * c)) t)))
+
+-- a charge is within the same bound as the product that it is rounded from: the roundings before and behind it have one sign
+pub charge-within : (bound : ℕ) (amount : ℤ) (t c d : ℕ) → natAbs amount * (c + d) < bound
+    → natAbs (upTo amount t (c + d) -ℤ upTo amount t c) < bound
+charge-within bound (pos a) t c d h = charge-pos bound a t c d h
+charge-within bound (negsuc a) t c d h =
+    let amount = pos (suc a) in
+    rw (step-neg amount t (c + d) c, abs-neg (upTo amount t (c + d) -ℤ upTo amount t c)) (charge-pos bound (suc a) t c d h)
 
 pub up-to-zero : (amount : ℤ) (t : ℕ) → upTo amount t 0 ≡ pos 0
 up-to-zero amount t = rw (*ℤ-zero amount) (round-zero t)

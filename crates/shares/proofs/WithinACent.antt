@@ -9,8 +9,9 @@ use Rattle.exact.specs.Round.{roundDiv, halfUp}
 use Rattle.exact.proofs.Magnitude.{abs-neg}
 use Rattle.exact.proofs.Difference.{neg-mul, mul-neg, minus-neg, minus-sub, mul-sub, sub-minus, abs-sub-lt}
 use Rattle.exact.proofs.Round.{half-low, half-high}
-use Rattle.shares.specs.Shares.{total, upTo, sharesFrom, shares, apart}
-use Rattle.shares.proofs.Turned.{up-to-neg}
+use Rattle.exact.specs.Total.{total}
+use Rattle.shares.specs.Shares.{upTo, sharesFrom, shares, apart}
+use Rattle.shares.proofs.Turned.{step-neg}
 
 near-pos : (a t c d : ℕ) → 0 < t → natAbs (apart t (pos a) (upTo (pos a) t (c + d) -ℤ upTo (pos a) t c) d) < t
 unfolding roundDiv
@@ -26,9 +27,8 @@ near : (amount : ℤ) (t c d : ℕ) → 0 < t → natAbs (apart t amount (upTo a
 near (pos a) t c d h = near-pos a t c d h
 near (negsuc a) t c d h =
     let amount = pos (suc a) in
-    let x₁ = upTo amount t (c + d) in
-    let x₀ = upTo amount t c in
-    rw (up-to-neg amount t (c + d), up-to-neg amount t c, minus-neg x₁ x₀, mul-neg t (x₁ -ℤ x₀), neg-mul amount d, minus-neg (pos t *ℤ (x₁ -ℤ x₀)) (amount *ℤ pos d), abs-neg (apart t amount (x₁ -ℤ x₀) d))
+    let charge = upTo amount t (c + d) -ℤ upTo amount t c in
+    rw (step-neg amount t (c + d) c, mul-neg t charge, neg-mul amount d, minus-neg (pos t *ℤ charge) (amount *ℤ pos d), abs-neg (apart t amount charge d))
     (near-pos (suc a) t c d h)
 
 from-near : (amount : ℤ) (t c : ℕ) (ds : List ℕ) (i : ℕ) → 0 < t → i < length ds

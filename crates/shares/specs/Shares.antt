@@ -1,14 +1,10 @@
--- "Shares" of document 01: an amount A shared among coordinators by their running demands.
+-- Shares (docs/RULES.md, section 8): an amount A shared among coordinators by their running demands.
 use mathlib.Core.List.{List, [], _∷_, _++_}
 use Prim.Native.Nat.{ℕ, _+_}
 use lib.IntN.{ℤ, pos, _+ℤ_, _-ℤ_, _*ℤ_}
 use lib.ListN.{take, drop}
 use Rattle.exact.specs.Round.{roundDiv}
-
--- the total T of the demands
-unfoldable pub total : List ℕ → ℕ
-total [] = 0
-total (d ∷ ds) = d + total ds
+use Rattle.exact.specs.Total.{total}
 
 -- R(A × C / T), and 0 where T is 0
 abbrev pub upTo : ℤ → ℕ → ℕ → ℤ

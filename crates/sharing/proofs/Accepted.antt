@@ -3,7 +3,7 @@ use mathlib.Core.Path.{_≡_}
 use mathlib.Core.Logic.{_⊎_}
 use mathlib.Core.Bool.{_||_}
 use mathlib.Core.List.{List}
-use Prim.Native.Nat.{ℕ, zero, suc, _+_, _≤_, _<_, zero-le}
+use Prim.Native.Nat.{ℕ, zero, suc, _≤_, _<_, zero-le}
 use native.Mathlib.Nat.{le-refl}
 use native.Mathlib.Numerals.{add-one}
 use native.Mathlib.Omega.{arith}
@@ -14,31 +14,28 @@ use lib.Seq.{take-length}
 use borrow.Author.Tests.{leb-true}
 use Rattle.verdict.specs.Verdict.{numberOf}
 use Rattle.verdict.proofs.First.{kept, or-first, or-second, scan-each}
+use Rattle.exact.specs.Total.{total}
+use Rattle.exact.proofs.Totals.{total-next}
+use Rattle.limits.specs.Ranges.{mostDemand, mostAmount}
+use Rattle.hour.specs.Kept.{DemandKept}
 use Rattle.hour.proofs.Rules.{demand-kept}
-use Rattle.shares.specs.Shares.{total}
-use Rattle.shares.proofs.Totals.{total-next}
 use Rattle.shares.proofs.SomeDemand.{shareable-when}
-use Rattle.sharing.specs.Rows.{demandBefore, rowOf, rowsRule, columnsRule}
+use Rattle.sharing.specs.Rows.{rowRuleAt, rowsRule, columnsRule}
 
--- the running demand before the next row
-pub before-next : (demands : List ℕ) (i : ℕ) → i < length demands → demandBefore demands (i + 1) ≡ demandBefore demands i + getD demands i 0
-unfolding demandBefore
-before-next demands i h = total-next demands i h
-
--- their demands are together at most 100,000,000
-pub rows-total : (coordinators demands : List ℕ) → numberOf (rowsRule coordinators demands) ≡ 0 → total demands ≤ 100000000
-unfolding rowsRule rowOf demandBefore total
+pub rows-total : (coordinators demands : List ℕ) → numberOf (rowsRule coordinators demands) ≡ 0 → total demands ≤ mostDemand
+unfolding rowsRule rowRuleAt total
 rows-total coordinators demands z = rw take-length at (up-to-row (length demands) (le-refl _))
   where
-    up-to-row : (n : ℕ) → n ≤ length demands → total (take n demands) ≤ 100000000
+    up-to-row : (n : ℕ) → n ≤ length demands → total (take n demands) ≤ mostDemand
     up-to-row zero h = zero-le
     up-to-row (suc i) h =
-        let within : demandBefore demands i + getD demands i 0 ≤ 100000000 = demand-kept _ _ _ (or-second _ _ (scan-each (rowOf coordinators demands) (length demands) z i h)) .1 in
-        rw (← add-one i) (omega (arith, before-next demands i h))
+        let each = scan-each (rowRuleAt coordinators demands) (length demands) z i h in
+        let k : DemandKept (total (take i demands)) (getD demands i 0) = demand-kept _ _ _ (or-second _ _ each) in
+        rw (← add-one i) (omega (arith, total-next demands i h))
 
 pub record Accepted (amount : ℤ) (demands : List ℕ) (room : ℕ) : Type 0 where
-  pub amount-within : natAbs amount ≤ 10000000000
-  pub total-within : total demands ≤ 100000000
+  pub amount-within : natAbs amount ≤ mostAmount
+  pub total-within : total demands ≤ mostDemand
   pub room-enough : length demands ≤ room
   pub demand-some : (amount ≡ pos 0) ⊎ (0 < total demands)
 
@@ -46,7 +43,7 @@ pub columns-accepted : (amount : ℤ) (coordinators demands : List ℕ) (room : 
     → Accepted amount demands room
 unfolding columnsRule
 columns-accepted amount coordinators demands room z =
-    let a = kept (leb (natAbs amount) 10000000000) _ _ (λ q. omega arith) z in
+    let a = kept (leb (natAbs amount) mostAmount) _ _ (λ q. omega arith) z in
     let b = or-second (rowsRule coordinators demands) _ (a .1) in
     let d = kept (leb (length demands) room) _ _ (λ q. omega arith) b in
     let e = kept (eqb (natAbs amount) 0 || ltb 0 (total demands)) _ _ (λ q. omega arith) (d .1) in

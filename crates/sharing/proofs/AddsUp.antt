@@ -1,21 +1,17 @@
--- The charges add up to the amount whenever the sharing call accepts.
-use Prim.Native.Nat.{ℕ}
-use mathlib.Core.Bool.{_&&_}
+-- The charges that the sharing call leaves add up to the amount whenever it accepts.
 use mathlib.Core.List.{List}
-use mathlib.Core.Path.{_≡_}
-use native.Mathlib.Omega.{arith}
-use lib.Dec.{leb}
+use mathlib.Core.Path.{_≡_, ap, _∙_}
 use lib.IntN.{ℤ}
 use lib.ListN.{length}
 use Rattle.verdict.specs.Verdict.{numberOf}
-use Rattle.verdict.proofs.First.{kept}
-use Rattle.shares.specs.Shares.{shares, sum}
+use Rattle.shares.specs.Shares.{sum}
 use Rattle.shares.proofs.AddsUp.{adds-up}
 use Rattle.sharing.specs.declared.Row.{Row}
-use Rattle.sharing.specs.Rows.{coordinatorsOf, demandsOf, shareOf}
-use Rattle.sharing.proofs.Accepted.{columns-accepted}
+use Rattle.sharing.specs.Rows.{demandColumn, shareOf}
+use Rattle.sharing.specs.Charged.{rowCharges}
+use Rattle.sharing.proofs.Charges.{accepted, charged}
 
-pub accepted-adds-up : (amount : ℤ) (rows : List Row) (room : ℕ) → numberOf (shareOf amount rows room) ≡ 0 → sum (shares amount (demandsOf rows)) ≡ amount
-accepted-adds-up amount rows room z =
-    let counted = kept (leb 1 (length rows) && leb (length rows) 64) _ _ (λ q. omega arith) z in
-    adds-up amount (demandsOf rows) (columns-accepted amount (coordinatorsOf rows) (demandsOf rows) room (counted .1) .demand-some)
+pub charges-add-up : (amount : ℤ) (rows : List Row) (charges : List ℤ) → numberOf (shareOf amount rows (length charges)) ≡ 0
+    → sum (rowCharges amount rows charges) ≡ amount
+charges-add-up amount rows charges z =
+    ap sum (charged amount rows charges z) ∙ adds-up amount (demandColumn rows) (accepted amount rows (length charges) z .demand-some)

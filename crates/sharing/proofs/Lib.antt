@@ -1,3 +1,9 @@
+pub mod Walk
 pub mod Accepted
 pub mod Columns
+pub mod Charges
 pub mod AddsUp
+pub mod WithinACent
+pub mod Merged
+pub mod MergedAccepted
+pub mod Turned

@@ -1,23 +1,29 @@
 -- The copy of a table of rows that the sharing call works on: a column for each field. No public promise speaks of it.
-use mathlib.Core.Bool.{cond}
-use mathlib.Core.List.{List, [], _∷_}
-use Prim.Native.Nat.{_+_}
-use lib.Dec.{ltb}
-use lib.ListN.{set, replicate}
+use Prim.Native.Nat.{ℕ}
+use mathlib.Core.List.{List, _++_}
+use mathlib.Core.Path.{_≡_}
+use lib.IntN.{ℤ}
+use lib.ListN.{length, take, drop, replicate}
+use Rattle.verdict.specs.declared.Verdict.{Verdict}
+use Rattle.limits.specs.Ranges.{mostCoordinators}
 use Rattle.sharing.specs.declared.Row.{Row}
 use Rattle.sharing.specs.declared.Table.{Table}
+use Rattle.sharing.specs.Rows.{coordinatorColumn, demandColumn, rowCountRule, columnsRule, chargesAfter}
 
-unfoldable pub emptyTable : Table
-emptyTable = record { count = 0; coordinators = replicate 64 0; demands = replicate 64 0 }
+unfoldable pub emptyColumn : List ℕ
+emptyColumn = replicate mostCoordinators 0
 
--- one row more; past the 64th only the count goes on
-abbrev pub withRow : Table → Row → Table
-withRow table row = record {
-  count = table .count + 1;
-  coordinators = cond (ltb (table .count) 64) (set (table .coordinators) (table .count) (row .coordinator)) (table .coordinators);
-  demands = cond (ltb (table .count) 64) (set (table .demands) (table .count) (row .demand)) (table .demands);
-}
+-- the numbers of the first 64 rows, and zeros behind
+unfoldable pub column : List ℕ → List ℕ
+column numbers = let first = take mostCoordinators numbers in first ++ drop (length first) emptyColumn
 
-unfoldable pub withRows : Table → List Row → Table
-withRows table [] = table
-withRows table (row ∷ rows) = withRows (withRow table row) rows
+-- how many rows there are, and the columns of the first ones
+abbrev pub tableOf : List Row → Table
+tableOf rows = record { count = length rows; coordinators = column (coordinatorColumn rows); demands = column (demandColumn rows) }
+
+-- what is promised of the copy, as `SharedRows` of the rows
+abbrev pub SharedTable : ℤ → Table → List ℤ → Verdict → List ℤ → Type 0
+SharedTable amount table charges answer after =
+    let demands = take (table .count) (table .demands) in
+    (answer ≡ rowCountRule (table .count) (columnsRule amount (take (table .count) (table .coordinators)) demands (length charges)))
+    × (after ≡ chargesAfter answer amount demands charges)

@@ -1,2 +1,3 @@
 pub mod Rows
 pub mod Columns
+pub mod Charged

@@ -1,7 +1,8 @@
--- The sharing call of document 01, over a table of rows, each a coordinator number and a demand: what it refuses, and the charges afterwards.
+-- The sharing call (docs/RULES.md, section 11), over a table of rows, each a coordinator number and a demand: what it refuses, and the charges afterwards.
 use Prim.Native.Nat.{ℕ, zero, suc}
 use mathlib.Core.Bool.{cond, _&&_, _||_}
 use mathlib.Core.List.{List, _++_, map}
+use mathlib.Core.Path.{_≡_}
 use lib.Dec.{eqb, leb, ltb}
 use lib.IntN.{ℤ, natAbs}
 use lib.ListN.{length, getD, take, drop}
@@ -9,16 +10,22 @@ use Rattle.verdict.specs.declared.Verdict.{Verdict}
 use Rattle.verdict.specs.declared.Verdict.the-variants.{Accepted, BadLength, AmountWithoutDemand, RoomTooShort, AmountBeyondRange}
 use Rattle.verdict.specs.Verdict.{numberOf}
 use Rattle.verdict.specs.First.{rule_else_then_, _orElse_, scan}
+use Rattle.exact.specs.Total.{total}
+use Rattle.limits.specs.Ranges.{mostCoordinators, mostAmount}
 use Rattle.hour.specs.Check.{demandRule}
 use Rattle.body.specs.Check.{coordinatorRule}
+use Rattle.shares.specs.Shares.{shares}
 use Rattle.sharing.specs.declared.Row.{Row}
-use Rattle.shares.specs.Shares.{total, shares}
 
-abbrev pub coordinatorsOf : List Row → List ℕ
-coordinatorsOf = map (λ (row : Row). row .coordinator)
+abbrev pub coordinatorColumn : List Row → List ℕ
+coordinatorColumn = map (λ (row : Row). row .coordinator)
 
-abbrev pub demandsOf : List Row → List ℕ
-demandsOf = map (λ (row : Row). row .demand)
+abbrev pub demandColumn : List Row → List ℕ
+demandColumn = map (λ (row : Row). row .demand)
+
+-- how many rows a caller may hold by value
+abbrev pub rowsByValue : ℕ
+rowsByValue = 70
 
 -- ---- "rows in order (8, 9, 10, place the row from 0)"
 
@@ -27,25 +34,21 @@ abbrev pub rowRule : (place before running coordinator demand : ℕ) → Verdict
 rowRule place before running coordinator demand = coordinatorRule place before coordinator orElse demandRule place running demand
 
 -- the coordinator before row i; 0 before the first
-unfoldable pub coordinatorBefore : List ℕ → ℕ → ℕ
-coordinatorBefore coordinators zero = 0
-coordinatorBefore coordinators (suc i) = getD coordinators i 0
+unfoldable pub coordinatorAbove : List ℕ → ℕ → ℕ
+coordinatorAbove coordinators zero = 0
+coordinatorAbove coordinators (suc i) = getD coordinators i 0
 
--- the running demand before row i
-unfoldable pub demandBefore : List ℕ → ℕ → ℕ
-demandBefore demands i = total (take i demands)
-
-unfoldable pub rowOf : List ℕ → List ℕ → ℕ → Verdict
-rowOf coordinators demands i = rowRule i (coordinatorBefore coordinators i) (demandBefore demands i) (getD coordinators i 0) (getD demands i 0)
+unfoldable pub rowRuleAt : List ℕ → List ℕ → ℕ → Verdict
+rowRuleAt coordinators demands i = rowRule i (coordinatorAbove coordinators i) (total (take i demands)) (getD coordinators i 0) (getD demands i 0)
 
 unfoldable pub rowsRule : List ℕ → List ℕ → Verdict
-rowsRule coordinators demands = scan (rowOf coordinators demands) 0 (length demands)
+rowsRule coordinators demands = scan (rowRuleAt coordinators demands) 0 (length demands)
 
 -- ---- the call
 
 -- "1 unless 1 to 64 rows", and then the rest
-abbrev pub countRule : ℕ → Verdict → Verdict
-countRule count rest = rule leb 1 count && leb count 64 else BadLength then rest
+abbrev pub rowCountRule : ℕ → Verdict → Verdict
+rowCountRule count rest = rule leb 1 count && leb count mostCoordinators else BadLength then rest
 
 -- "13 for fewer charges than rows, 12 (place 0; A not 0 and T = 0)", with t the total
 abbrev pub chargesRule : (amount : ℤ) (t count room : ℕ) → Verdict
@@ -57,14 +60,24 @@ chargesRule amount t count room =
 -- "15, rows in order", and then those
 unfoldable pub columnsRule : (amount : ℤ) (coordinators demands : List ℕ) (room : ℕ) → Verdict
 columnsRule amount coordinators demands room =
-    rule leb (natAbs amount) 10000000000 else AmountBeyondRange then
+    rule leb (natAbs amount) mostAmount else AmountBeyondRange then
     rowsRule coordinators demands orElse chargesRule amount (total demands) (length demands) room
 
 -- an amount over these rows, into `room` charges
 abbrev pub shareOf : ℤ → List Row → ℕ → Verdict
-shareOf amount rows room = countRule (length rows) (columnsRule amount (coordinatorsOf rows) (demandsOf rows) room)
+shareOf amount rows room = rowCountRule (length rows) (columnsRule amount (coordinatorColumn rows) (demandColumn rows) room)
 
 -- "charges past the rows stay"; a refusal writes nothing
 abbrev pub chargesAfter : Verdict → ℤ → List ℕ → List ℤ → List ℤ
 chargesAfter verdict amount demands charges =
     cond (eqb (numberOf verdict) 0) (shares amount demands ++ drop (length demands) charges) charges
+
+-- ---- what is promised: the answer, and the charges afterwards
+
+abbrev pub SharedColumns : ℤ → (coordinators demands : List ℕ) → List ℤ → Verdict → List ℤ → Type 0
+SharedColumns amount coordinators demands charges answer after =
+    (answer ≡ columnsRule amount coordinators demands (length charges)) × (after ≡ chargesAfter answer amount demands charges)
+
+abbrev pub SharedRows : ℤ → List Row → List ℤ → Verdict → List ℤ → Type 0
+SharedRows amount rows charges answer after =
+    (answer ≡ shareOf amount rows (length charges)) × (after ≡ chargesAfter answer amount (demandColumn rows) charges)

@@ -1,27 +1,31 @@
 // The sharing call: an amount shared over a lent table of rows, which is checked first.
 use verdict::Verdict;
 ghost use mathlib.Core.Path.{_≡_};
-ghost use Prim.Native.Nat.{_≤_, _<_, _-_, _^_};
+ghost use Prim.Native.Nat.{_≤_, min};
 ghost use lib.Dec.{leb};
 ghost use lib.IntN.{natAbs};
 ghost use lib.ListN.{length, take};
-ghost use Rattle.sharing.specs.Rows.{rowRule, rowsRule, chargesRule, columnsRule, countRule, shareOf, demandsOf, chargesAfter};
-ghost use Rattle.sharing.specs.Columns.{emptyTable, withRow, withRows};
+ghost use Rattle.limits.specs.Ranges.{mostDemand, mostAmount};
+ghost use Rattle.sharing.specs.Rows.{rowRule, rowsRule, chargesRule, columnsRule, SharedColumns, SharedRows};
+ghost use Rattle.sharing.specs.Columns.{tableOf, SharedTable};
 
 pub struct Row {
     pub coordinator: u32,
     pub demand: u32,
 }
 
-// A copy of a lent table: how many rows there are, and a column for each field of the first 64.
+// How many rows a caller may hold by value: more than the most coordinators, so that a program can reach refusal 1.
+pub const ROWS_BY_VALUE: usize = 70;
+
+// A copy of a lent table: how many rows there are, and a column for each field of the first ones.
 struct Table {
     count: usize,
-    coordinators: [u32; 64],
-    demands: [u32; 64],
+    coordinators: [u32; limits::MOST_COORDINATORS],
+    demands: [u32; limits::MOST_COORDINATORS],
 }
 
 fn check_row(place: usize, before: u32, running: u32, coordinator: u32, demand: u32) -> Verdict
-    requires { ⌜ running ≤ 100000000 ⌝ }
+    requires { ⌜ running ≤ mostDemand ⌝ }
     ensures { λ r. ⌜ r ≡ rowRule place before running coordinator demand ⌝ }
 {
     let first = body::coordinator(place, before, coordinator);
@@ -52,50 +56,25 @@ fn check_rows(coordinators: &[u32], demands: &[u32]) -> Verdict
     Verdict::Accepted
 }
 
-// By two tests, since the least 64-bit number has no magnitude in 64 bits.
 fn within(amount: i64) -> bool
-    ensures { λ r. ⌜ r ≡ leb (natAbs amount) 10000000000 ⌝ }
+    ensures { λ r. ⌜ r ≡ leb (natAbs amount) mostAmount ⌝ }
 {
-    if amount < -10000000000 {
-        return false;
-    }
-    amount <= 10000000000
+    exact::absolute(amount) <= limits::MOST_AMOUNT as u64
 }
 
-fn empty_table() -> Table
-    ensures { λ r. ⌜ r ≡ emptyTable ⌝ }
+fn at_most(n: usize, most: usize) -> usize
+    ensures { λ r. ⌜ r ≡ min n most ⌝ }
 {
-    let coordinators = [0u32; 64];
-    let demands = [0u32; 64];
-    Table {
-        count: 0,
-        coordinators,
-        demands,
+    if most < n {
+        return most;
     }
+    n
 }
 
-fn with_row(table: Table, row: Row) -> Table
-    requires { ⌜ table .count < 2 ^ 64 - 1 ⌝ }
-    ensures { λ r. ⌜ r ≡ withRow table row ⌝ }
+fn check_charges(amount: i64, whole: u32, count: usize, room: usize) -> Verdict
+    ensures { λ r. ⌜ r ≡ chargesRule amount whole count room ⌝ }
 {
-    let count = table.count;
-    let mut coordinators = table.coordinators;
-    let mut demands = table.demands;
-    if count < 64 {
-        coordinators[count] = row.coordinator;
-        demands[count] = row.demand;
-    }
-    Table {
-        count: count + 1,
-        coordinators,
-        demands,
-    }
-}
-
-fn check_charges(amount: i64, total: u32, count: usize, room: usize) -> Verdict
-    ensures { λ r. ⌜ r ≡ chargesRule amount total count room ⌝ }
-{
-    let can_share = shares::shareable(amount, total);
+    let can_share = shares::shareable(amount, whole);
     if room < count {
         return Verdict::RoomTooShort { needed: count };
     }
@@ -116,13 +95,13 @@ fn check_columns(amount: i64, coordinators: &[u32], demands: &[u32], room: usize
     if verdict::number(rows) != 0 {
         return rows;
     }
-    check_charges(amount, shares::total_demand(demands), demands.len(), room)
+    check_charges(amount, shares::sum_of_demands(demands), demands.len(), room)
 }
 
 // All is checked before the first charge is written.
 fn share_columns(amount: i64, coordinators: &[u32], demands: &[u32], charges: &mut [i64]) -> Verdict
     requires { ⌜ length (now coordinators) ≡ length (now demands) ⌝ }
-    ensures { λ r. ⌜ (r ≡ columnsRule amount (now (coordinators .entry)) (now (demands .entry)) (length (now (charges .entry)))) × (now (charges .exit) ≡ chargesAfter r amount (now (demands .entry)) (now (charges .entry))) ⌝ }
+    ensures { λ r. ⌜ SharedColumns amount (now (coordinators .entry)) (now (demands .entry)) (now (charges .entry)) r (now (charges .exit)) ⌝ }
 {
     let checked = check_columns(amount, coordinators, demands, charges.len());
     if verdict::number(checked) != 0 {
@@ -133,13 +112,13 @@ fn share_columns(amount: i64, coordinators: &[u32], demands: &[u32], charges: &m
 }
 
 fn share_table(amount: i64, table: Table, charges: &mut [i64]) -> Verdict
-    ensures { λ r. ⌜ (r ≡ countRule (table .count) (columnsRule amount (take (table .count) (table .coordinators)) (take (table .count) (table .demands)) (length (now (charges .entry))))) × (now (charges .exit) ≡ chargesAfter r amount (take (table .count) (table .demands)) (now (charges .entry))) ⌝ }
+    ensures { λ r. ⌜ SharedTable amount table (now (charges .entry)) r (now (charges .exit)) ⌝ }
 {
     let count = table.count;
     if count < 1 {
         return Verdict::BadLength;
     }
-    if 64 < count {
+    if limits::MOST_COORDINATORS < count {
         return Verdict::BadLength;
     }
     let coordinators = table.coordinators;
@@ -149,29 +128,43 @@ fn share_table(amount: i64, table: Table, charges: &mut [i64]) -> Verdict
 
 // The copying loop under the sharing call. It is the one loop over lent rows, and is proved by hand.
 fn table_of(rows: &[Row]) -> Table
-    ensures { λ r. ⌜ r ≡ withRows emptyTable (now (rows .entry)) ⌝ }
+    ensures { λ r. ⌜ r ≡ tableOf (now (rows .entry)) ⌝ }
 {
-    let mut table = empty_table();
+    let mut coordinators = [0u32; limits::MOST_COORDINATORS];
+    let mut demands = [0u32; limits::MOST_COORDINATORS];
+    let count = rows.len();
+    let copied = at_most(count, limits::MOST_COORDINATORS);
     let mut i: usize = 0;
-    while i < rows.len() {
-        table = with_row(table, rows[i]);
+    while i < copied {
+        let row = rows[i];
+        coordinators[i] = row.coordinator;
+        demands[i] = row.demand;
         i += 1;
     }
-    table
+    Table {
+        count,
+        coordinators,
+        demands,
+    }
 }
 
 // The sharing call. Proved by hand.
 pub fn share(amount: i64, rows: &[Row], charges: &mut [i64]) -> Verdict
-    ensures { λ r. ⌜ (r ≡ shareOf amount (now (rows .entry)) (length (now (charges .entry)))) × (now (charges .exit) ≡ chargesAfter r amount (demandsOf (now (rows .entry))) (now (charges .entry))) ⌝ }
+    ensures { λ r. ⌜ SharedRows amount (now (rows .entry)) (now (charges .entry)) r (now (charges .exit)) ⌝ }
 {
     share_table(amount, table_of(rows), charges)
 }
 
-// For a caller that holds its rows by value: the first n are lent to the sharing call. There is room for more than 64, so that a program
-// can reach refusal 1. Proved by hand; its callers need no walk.
-pub fn share_array(amount: i64, rows: [Row; 70], n: usize, charges: &mut [i64]) -> Verdict
-    requires { ⌜ n ≤ 70 ⌝ }
-    ensures { λ r. ⌜ (r ≡ shareOf amount (take n rows) (length (now (charges .entry)))) × (now (charges .exit) ≡ chargesAfter r amount (demandsOf (take n rows)) (now (charges .entry))) ⌝ }
+// For a caller that holds its rows by value: the first n are lent to the sharing call, or all of them where n is larger. Proved by hand; its callers
+// need no walk.
+pub fn share_array(
+    amount: i64,
+    rows: [Row; ROWS_BY_VALUE],
+    n: usize,
+    charges: &mut [i64],
+) -> Verdict
+    ensures { λ r. ⌜ SharedRows amount (take n rows) (now (charges .entry)) r (now (charges .exit)) ⌝ }
 {
-    share(amount, &rows[..n], charges)
+    let lent = at_most(n, ROWS_BY_VALUE);
+    share(amount, &rows[..lent], charges)
 }

@@ -1,13 +1,15 @@
--- The statement of one area: 24 hours of on-peak amount, off-peak amount, downward amount, and a charge for each coordinator.
--- A function of the peak word, the area's persistent days and its body alone.
+-- The statement of one area (docs/RULES.md, section 9): 24 hours of on-peak amount, off-peak amount, downward amount, and a charge for each coordinator.
+-- A function of the terms that its day is settled under and its body alone.
 use Prim.Native.Nat.{ℕ, zero, suc, _+_, _*_}
 use mathlib.Core.Bool.{cond}
 use mathlib.Core.List.{List, [], _∷_, _++_}
 use lib.Dec.{eqb}
 use lib.IntN.{ℤ}
-use Rattle.words.specs.Word.{wordAt}
+use Rattle.words.specs.Bytes.{wordsFrom}
+use Rattle.limits.specs.Ranges.{dayHours}
 use Rattle.body.specs.Layout.{kindOf, coordinatorsOf, demandsAt}
 use Rattle.shares.specs.Shares.{shares}
+use Rattle.surcharge.specs.declared.Terms.{Terms}
 use Rattle.amounts.specs.Amounts.{onPeakAmount, offPeakAmount, downwardAmount, amountAt}
 
 -- how many numbers an hour has before its charges
@@ -19,23 +21,18 @@ hourNumbers coordinators = amountsShown + coordinators
 
 -- "24(3 + K)"
 abbrev pub areaNumbers : ℕ → ℕ
-areaNumbers coordinators = 24 * hourNumbers coordinators
-
--- the first n demands from a word on
-unfoldable pub demandList : List ℕ → ℕ → ℕ → List ℕ
-demandList body from zero = []
-demandList body from (suc n) = demandList body from n ++ (wordAt body (from + n) ∷ [])
+areaNumbers coordinators = dayHours * hourNumbers coordinators
 
 -- "Kind 0: the one coordinator is charged A. Kind 1: .." its share by running demands
 unfoldable pub chargesFrom : (kind : ℕ) (amount : ℤ) (body : List ℕ) (from count : ℕ) → List ℤ
-chargesFrom kind amount body from count = cond (eqb kind 1) (shares amount (demandList body from count)) (amount ∷ [])
+chargesFrom kind amount body from count = cond (eqb kind 1) (shares amount (wordsFrom body from count)) (amount ∷ [])
 
-module _ (peak days : ℕ) (body : List ℕ) where
+module _ (terms : Terms) (body : List ℕ) where
   abbrev pub chargesAt : ℕ → List ℤ
-  chargesAt h = chargesFrom (kindOf body) (amountAt body peak days h) body (demandsAt body h) (coordinatorsOf body)
+  chargesAt h = chargesFrom (kindOf body) (amountAt terms body h) body (demandsAt body h) (coordinatorsOf body)
 
   unfoldable pub hourBlock : ℕ → List ℤ
-  hourBlock h = onPeakAmount body peak days h ∷ offPeakAmount body peak h ∷ downwardAmount body h ∷ chargesAt h
+  hourBlock h = onPeakAmount terms body h ∷ offPeakAmount terms body h ∷ downwardAmount terms body h ∷ chargesAt h
 
   -- the first n hours
   unfoldable pub hoursBlock : ℕ → List ℤ
@@ -43,4 +40,4 @@ module _ (peak days : ℕ) (body : List ℕ) where
   hoursBlock (suc n) = hoursBlock n ++ hourBlock n
 
   abbrev pub block : List ℤ
-  block = hoursBlock 24
+  block = hoursBlock dayHours

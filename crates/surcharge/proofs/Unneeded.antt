@@ -6,23 +6,25 @@ use native.Mathlib.Omega.{arith}
 use lib.Dec.{eqb, leb}
 use lib.IntN.{ℤ}
 use borrow.Author.Tests.{leb-false, le-leb}
-use Rattle.surcharge.specs.Surcharge.{creditOf, onPeakOf, offPeakOf, needed}
+use Rattle.surcharge.specs.declared.Terms.{Terms}
+use Rattle.surcharge.specs.Surcharge.{creditOf, onPeakOf, offPeakOf, needsPrice}
 
-on-by : (most : ℕ) (hub : ℤ) (day days tier : ℕ) (p q : ℤ) (t u : Bool) → leb day 1 ≡ t → eqb tier 0 ≡ u → (leb 2 day && u) ≡ false
-    → onPeakOf most hub day days tier p ≡ onPeakOf most hub day days tier q
+on-by : (terms : Terms) (most : ℕ) (hub : ℤ) (day tier : ℕ) (p q : ℤ) (t u : Bool) → leb day 1 ≡ t → eqb tier 0 ≡ u → (leb 2 day && u)
+    ≡ false
+    → onPeakOf terms most hub day tier p ≡ onPeakOf terms most hub day tier q
 unfolding onPeakOf creditOf
-on-by most hub day days tier p q true u e f h = rw e
-on-by most hub day days tier p q false true e f h =
+on-by terms most hub day tier p q true u e f h = rw e
+on-by terms most hub day tier p q false true e f h =
     let z : leb 2 day ≡ true = le-leb 2 day (leb-false day 1 e) in
     let n : _≡_ {A = ℕ} 0 1 = cc in absurd (omega arith)
-on-by most hub day days tier p q false false e f h = rw f
+on-by terms most hub day tier p q false false e f h = rw f
 
-pub on-unneeded : (most : ℕ) (hub : ℤ) (day days tier : ℕ) (p q : ℤ) → needed 1 true day tier ≡ false
-    → onPeakOf most hub day days tier p ≡ onPeakOf most hub day days tier q
-on-unneeded most hub day days tier p q h = on-by most hub day days tier p q (leb day 1) (eqb tier 0) refl refl h
+pub on-unneeded : (terms : Terms) (most : ℕ) (hub : ℤ) (day tier : ℕ) (p q : ℤ) → needsPrice 1 true day tier ≡ false
+    → onPeakOf terms most hub day tier p ≡ onPeakOf terms most hub day tier q
+on-unneeded terms most hub day tier p q h = on-by terms most hub day tier p q (leb day 1) (eqb tier 0) refl refl h
 
-pub off-unneeded : (upward tier : ℕ) (p q : ℤ) → leb 2 tier ≡ false → offPeakOf upward tier p ≡ offPeakOf upward tier q
+pub off-unneeded : (terms : Terms) (upward tier : ℕ) (p q : ℤ) → leb 2 tier ≡ false → offPeakOf terms upward tier p ≡ offPeakOf terms upward tier q
 unfolding offPeakOf
-off-unneeded upward tier p q h =
+off-unneeded terms upward tier p q h =
     let e : leb tier 1 ≡ true = le-leb tier 1 (omega (arith, leb-false 2 tier h)) in
     rw e

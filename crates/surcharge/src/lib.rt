@@ -7,20 +7,33 @@ use units::Quantity;
 ghost use mathlib.Core.Path.{_≡_};
 ghost use Prim.Native.Nat.{_≤_};
 ghost use lib.IntN.{natAbs};
-ghost use Rattle.surcharge.specs.Surcharge.{tierOf, peakHour, quarters, surchargeOf, creditOf, onPeakOf, offPeakOf, downwardOf, needed, greaterPrice};
-ghost use Rattle.surcharge.specs.Ranges.{DayRanged};
+ghost use Rattle.limits.specs.Ranges.{mostMarketPrice, mostUpward};
+ghost use Rattle.surcharge.specs.Surcharge.{tierOf, peakHour, quarters, surchargeOf, creditOf, onPeakOf, offPeakOf, downwardOf, needsPrice};
+ghost use Rattle.surcharge.specs.Surcharge.{greaterPrice};
+ghost use Rattle.surcharge.specs.Ranges.{TermsKept, DayRanged};
 
-// The facts of an area's day: day tier, M, the greater hub price P, persistent days d.
+// Up to 10 MW a shortage is of tier 1.
+const TIER_FLOOR: u32 = 10000;
+
+// Up to 10 MW there is no downward amount.
+const DOWNWARD_FLOOR: u32 = 10000;
+
+// What an area's day is settled under: the file's peak word, and the area's persistent days d.
+pub struct Terms {
+    pub peak: u32,
+    pub days: u32,
+}
+
+// The facts of an area's day: day tier, M, the greater hub price P.
 pub struct Day {
     pub tier: u32,
     pub most: Quantity,
     pub hub: HubPrice,
-    pub days: u32,
 }
 
 // The tier of an hour; nothing is rounded.
 pub fn tier(upward: Quantity, requirement: Quantity) -> u32
-    requires { ⌜ upward .0 ≤ 10000000 ⌝ }
+    requires { ⌜ upward .0 ≤ mostUpward ⌝ }
     ensures { λ r. ⌜ r ≡ tierOf (upward .0) (requirement .0) ⌝ }
 {
     let u = upward.0;
@@ -28,7 +41,7 @@ pub fn tier(upward: Quantity, requirement: Quantity) -> u32
     if u == 0 {
         return 0;
     }
-    if u <= 10000 {
+    if u <= TIER_FLOOR {
         return 1;
     }
     if 100 * u <= q {
@@ -40,10 +53,10 @@ pub fn tier(upward: Quantity, requirement: Quantity) -> u32
     3
 }
 
-pub fn peak_hour(peak: u32, h: usize) -> bool
-    ensures { λ r. ⌜ r ≡ peakHour peak h ⌝ }
+pub fn peak_hour(terms: Terms, h: usize) -> bool
+    ensures { λ r. ⌜ r ≡ peakHour terms h ⌝ }
 {
-    if peak == 0 {
+    if terms.peak == 0 {
         return false;
     }
     if h < 6 {
@@ -63,7 +76,7 @@ fn quarters_of(tier: u32) -> u32
 }
 
 pub fn price_needed(flag: u32, peak: bool, day: u32, tier: u32) -> bool
-    ensures { λ r. ⌜ r ≡ needed flag peak day tier ⌝ }
+    ensures { λ r. ⌜ r ≡ needsPrice flag peak day tier ⌝ }
 {
     if flag != 1 {
         return false;
@@ -77,18 +90,20 @@ pub fn price_needed(flag: u32, peak: bool, day: u32, tier: u32) -> bool
     tier == 0
 }
 
-pub fn downward(quantity: Quantity, mec: MarketPrice) -> Cents
-    ensures { λ r. ⌜ r .0 ≡ downwardOf (quantity .0) (mec .0) ⌝ }
+// The terms do not enter into it.
+pub fn downward(terms: Terms, quantity: Quantity, mec: MarketPrice) -> Cents
+    ensures { λ r. ⌜ r .0 ≡ downwardOf terms (quantity .0) (mec .0) ⌝ }
 {
-    if quantity.0 <= 10000 {
+    if quantity.0 <= DOWNWARD_FLOOR {
         return Cents(0);
     }
     quantity.at_market_price(mec).at_most_zero().rounded()
 }
 
-pub fn off_peak(upward: Quantity, tier: u32, price: MarketPrice) -> Cents
-    requires { ⌜ (upward .0 ≤ 10000000) × (natAbs (price .0) ≤ 20000000) ⌝ }
-    ensures { λ r. ⌜ r .0 ≡ offPeakOf (upward .0) tier (price .0) ⌝ }
+// The terms do not enter into it: no day scaling.
+pub fn off_peak(terms: Terms, upward: Quantity, tier: u32, price: MarketPrice) -> Cents
+    requires { ⌜ (upward .0 ≤ mostUpward) × (natAbs (price .0) ≤ mostMarketPrice) ⌝ }
+    ensures { λ r. ⌜ r .0 ≡ offPeakOf terms (upward .0) tier (price .0) ⌝ }
 {
     if tier <= 1 {
         return Cents(0);
@@ -101,19 +116,19 @@ pub fn off_peak(upward: Quantity, tier: u32, price: MarketPrice) -> Cents
 }
 
 // S, over 400,000.
-fn surcharge(day: Day) -> CentsOver400000
-    requires { ⌜ DayRanged day ⌝ }
-    ensures { λ r. ⌜ r .0 ≡ surchargeOf (day .most .0) (day .hub .0) (day .tier) (day .days) ⌝ }
+fn surcharge(terms: Terms, day: Day) -> CentsOver400000
+    requires { ⌜ (TermsKept terms) × (DayRanged day) ⌝ }
+    ensures { λ r. ⌜ r .0 ≡ surchargeOf terms (day .most .0) (day .hub .0) (day .tier) ⌝ }
 {
     let most = day.most;
     most.at_hub_price(day.hub)
-        .scaled(quarters_of(day.tier), 100 + day.days)
+        .scaled(quarters_of(day.tier), 100 + terms.days)
         .at_least_zero()
 }
 
 // The credit of a peak hour, over 400,000.
 fn credit(most: Quantity, tier: u32, price: MarketPrice) -> CentsOver400000
-    requires { ⌜ (most .0 ≤ 10000000) × (natAbs (price .0) ≤ 20000000) ⌝ }
+    requires { ⌜ (most .0 ≤ mostUpward) × (natAbs (price .0) ≤ mostMarketPrice) ⌝ }
     ensures { λ r. ⌜ r .0 ≡ creditOf (most .0) tier (price .0) ⌝ }
 {
     if tier == 0 {
@@ -122,15 +137,15 @@ fn credit(most: Quantity, tier: u32, price: MarketPrice) -> CentsOver400000
     CentsOver400000(0)
 }
 
-pub fn on_peak(day: Day, tier: u32, price: MarketPrice) -> Cents
-    requires { ⌜ DayRanged day ⌝ }
-    requires { ⌜ natAbs (price .0) ≤ 20000000 ⌝ }
-    ensures { λ r. ⌜ r .0 ≡ onPeakOf (day .most .0) (day .hub .0) (day .tier) (day .days) tier (price .0) ⌝ }
+pub fn on_peak(terms: Terms, day: Day, tier: u32, price: MarketPrice) -> Cents
+    requires { ⌜ (TermsKept terms) × (DayRanged day) ⌝ }
+    requires { ⌜ natAbs (price .0) ≤ mostMarketPrice ⌝ }
+    ensures { λ r. ⌜ r .0 ≡ onPeakOf terms (day .most .0) (day .hub .0) (day .tier) tier (price .0) ⌝ }
 {
     if day.tier <= 1 {
         return Cents(0);
     }
-    surcharge(day)
+    surcharge(terms, day)
         .minus(credit(day.most, tier, price))
         .at_least_zero()
         .rounded()

@@ -1,19 +1,23 @@
 -- Two bodies that differ at most in quantities whose price is missing: they have the same amounts, charges and refusals.
 use Prim.Native.Nat.{ℕ, zero, suc, _+_, _*_, _≤_, _<_}
-use mathlib.Core.Bool.{true}
+use mathlib.Core.Bool.{true, cond}
 use mathlib.Core.List.{List, _++_}
 use mathlib.Core.Logic.{_⊎_, inl, inr, ⊎-elim}
-use mathlib.Core.Path.{_≡_, refl, sym, ap₂}
+use mathlib.Core.Path.{_≡_, refl, sym, ap, ap₂, _∙_}
 use native.Mathlib.Omega.{arith}
+use Rattle.limits.specs.Ranges.{dayHours}
+use Rattle.verdict.specs.declared.Verdict.the-variants.{Accepted}
+use Rattle.verdict.proofs.First.{scan-same}
 use Rattle.words.specs.Word.{wordAt}
-use Rattle.hour.specs.Layout.{missing, runningDemand}
-use Rattle.body.specs.Layout.{pointsOf, coordinatorsOf, hourAt, intervalsAt, priceAt, quantityAt, demandsAt, demandAt}
-use Rattle.amounts.specs.Amounts.{amountAt}
+use Rattle.words.proofs.Words.{words-same}
+use Rattle.hour.specs.Layout.{missing}
+use Rattle.body.specs.Layout.{daysOf, pointsOf, coordinatorsOf, hourAt, intervalsAt, priceAt, quantityAt, demandsAt, demandAt, demandsOf}
+use Rattle.surcharge.specs.declared.Terms.{Terms}
+use Rattle.amounts.specs.Amounts.{amountAt, priceAnswerAt, priceNeeded, usableRule, priceRule}
 use Rattle.statement.specs.Block.{chargesAt, hourBlock, hoursBlock, block}
-use Rattle.settlement.specs.Settlement.{chargeable, hourRule, hoursRule}
+use Rattle.settlement.specs.Settlement.{chargeable, chargeRule, hourRefusal, hoursRefusal}
 use Rattle.theorems.proofs.Demands.{charges-same}
-use Rattle.theorems.proofs.SameAmounts.{SameAmounts, amount-same, on-peak-same, off-peak-same, downward-same, missing-same}
-use Rattle.theorems.proofs.FirstIndex.{scan-same}
+use Rattle.theorems.proofs.SameAmounts.{SameAmounts, amount-same, on-peak-same, off-peak-same, downward-same, price-rule-same}
 
 -- word by word: the head with its coordinator numbers, the eight numbers of each hour, its prices, its quantities where the price is there, its demands
 pub record Alike (body body′ : List ℕ) : Type 0 where
@@ -34,12 +38,6 @@ same-alike body body′ same =
       quantity = λ g m p. inr (same _);
       demand = λ g j p. same _;
     }
-
-pub demand-same : (body body′ : List ℕ) (from n : ℕ) → ((i : ℕ) → i < n → wordAt body (from + i) ≡ wordAt body′ (from + i))
-    → runningDemand body from n ≡ runningDemand body′ from n
-unfolding runningDemand
-demand-same body body′ from zero same = refl
-demand-same body body′ from (suc n) same = ap₂ _+_ (demand-same body body′ from n (λ i p. same i (omega arith))) (same n (omega arith))
 
 -- ---- of two bodies that are alike
 
@@ -62,44 +60,60 @@ module _ (body body′ : List ℕ) (alike : Alike body body′) where
         quantity = λ h m p q. ⊎-elim (λ e. inl e) (λ e. inr (rw (← at h) (sym e))) (alike .quantity h m q);
       }
 
+  pub days : daysOf body ≡ daysOf body′
+  days = alike .head 2 (omega arith)
+
   demands : (g : ℕ) → demandsAt body g ≡ demandsAt body′ g
   demands g = rw (at g, points)
 
-  total : (g : ℕ) → runningDemand body (demandsAt body g) (coordinatorsOf body) ≡ runningDemand body′ (demandsAt body′ g) (coordinatorsOf body′)
-  total g = rw (← demands g, ← coordinators) (demand-same body body′ (demandsAt body g) (coordinatorsOf body) (alike .demand g))
+  demands-same : (g : ℕ) → demandsOf body g ≡ demandsOf body′ g
+  demands-same g = rw (← demands g, ← coordinators) (words-same body body′ (demandsAt body g) (demandsAt body g) (coordinatorsOf body) (alike .demand g))
 
-  module _ (peak days : ℕ) where
-    module _ (g : ℕ) (below : g < 24) where
-      amount : amountAt body peak days g ≡ amountAt body′ peak days g
-      amount = sym (amount-same body body′ same peak days g below)
+  module _ (terms : Terms) where
+    module _ (g : ℕ) (below : g < dayHours) where
+      amount : amountAt terms body g ≡ amountAt terms body′ g
+      amount = sym (amount-same body body′ same terms g below)
 
-      charges : chargesAt peak days body g ≡ chargesAt peak days body′ g
+      charges : chargesAt terms body g ≡ chargesAt terms body′ g
       charges =
           rw amount
-          (charges-same (amountAt body′ peak days g) _ _ body body′ _ _ _ _ (alike .head 0 (omega arith)) coordinators (λ j p. rw (← demands g) (alike .demand g j p)))
+          (charges-same (amountAt terms body′ g) _ _ body body′ _ _ _ _ (alike .head 0 (omega arith)) coordinators
+          (λ j p. rw (← demands g) (alike .demand g j p)))
 
-      hour-same : hourBlock peak days body g ≡ hourBlock peak days body′ g
+      hour-same : hourBlock terms body g ≡ hourBlock terms body′ g
       unfolding hourBlock
-      hour-same = rw (on-peak-same body body′ same peak days g below, off-peak-same body body′ same peak days g below, downward-same body body′ same g below, charges)
+      hour-same =
+          rw (
+            on-peak-same body body′ same terms g below,
+            off-peak-same body body′ same terms g below,
+            downward-same body body′ same terms g below,
+            charges,
+          )
 
-      chargeable-same : chargeable body peak days g ≡ chargeable body′ peak days g
+      chargeable-same : chargeable terms body g ≡ chargeable terms body′ g
       unfolding chargeable
-      chargeable-same = rw (alike .head 0 (omega arith), amount, total g)
+      chargeable-same = rw (alike .head 0 (omega arith), amount, demands-same g)
 
-      -- 11 and 12 of the hour
-      pub rule-same : (start : ℕ) → hourRule peak days start body g ≡ hourRule peak days start body′ g
-      unfolding hourRule
-      rule-same start = rw (missing-same body body′ same peak days g below, chargeable-same, demands g, at g)
+      price-there : (start : ℕ) → priceRule terms start body g ≡ priceRule terms start body′ g
+      unfolding priceRule
+      price-there start =
+          ap (λ w. cond (priceNeeded terms body g) (usableRule (start + (w + 8)) (priceAnswerAt body g)) Accepted) (at g)
+          ∙ sym (price-rule-same body body′ same terms g below start)
 
-    hours-same : (n : ℕ) → n ≤ 24 → hoursBlock peak days body n ≡ hoursBlock peak days body′ n
+      -- what the hour refuses
+      pub rule-same : (start : ℕ) → hourRefusal terms start body g ≡ hourRefusal terms start body′ g
+      unfolding hourRefusal chargeRule
+      rule-same start = rw (price-there start, chargeable-same, demands g)
+
+    hours-same : (n : ℕ) → n ≤ dayHours → hoursBlock terms body n ≡ hoursBlock terms body′ n
     unfolding hoursBlock
     hours-same zero p = refl
     hours-same (suc n) p = ap₂ _++_ (hours-same n (omega arith)) (hour-same n p)
 
     -- the statement of the area
-    pub block-same : block peak days body ≡ block peak days body′
-    block-same = hours-same 24 (omega arith)
+    pub block-same : block terms body ≡ block terms body′
+    block-same = hours-same dayHours (omega arith)
 
-    pub hours-rule-same : (start : ℕ) → hoursRule peak days start body ≡ hoursRule peak days start body′
-    unfolding hoursRule
-    hours-rule-same start = scan-same _ _ 0 24 (λ g p. rule-same g (omega arith) start)
+    pub hours-rule-same : (start : ℕ) → hoursRefusal terms start body ≡ hoursRefusal terms start body′
+    unfolding hoursRefusal
+    hours-rule-same start = scan-same _ _ 0 dayHours (λ g p. rule-same g (omega arith) start)

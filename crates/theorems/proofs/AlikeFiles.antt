@@ -1,22 +1,28 @@
--- Two files with the same contents whose bodies are alike, area by area: they are settled alike.
+-- Two files with the same contents whose bodies are alike, area by area: they are settled alike, under any d that goes by the area's number and its own days.
 use Prim.Native.Nat.{ℕ, zero, suc, _≤_, _<_}
-use mathlib.Core.List.{List, [], _∷_, _++_}
+use mathlib.Core.List.{List, _++_}
 use mathlib.Core.Path.{_≡_, refl, sym, ap, ap₂, _∙_}
 use native.Mathlib.Nat.{le-refl}
 use native.Mathlib.Omega.{arith}
 use lib.IntN.{ℤ}
-use lib.ListN.{length, getD}
+use lib.ListN.{length}
 use Rattle.verdict.specs.Verdict.{numberOf}
-use Rattle.dayfile.specs.File.{areasOf, peakOf, startAt, bodyAt}
+use Rattle.verdict.proofs.First.{scan-same}
+use Rattle.dayfile.specs.File.{areasOf, peakOf, numberAt, startAt, bodyAt}
 use Rattle.dayfile.specs.Check.{checkOf}
-use Rattle.settlement.specs.Settlement.{neededTo, numbersNeeded, statementTo, fileDays, hoursRule, areaRule, areasRule, acceptedRule, settleWith, settleOf, afterWith}
-use Rattle.theorems.specs.Shown.{statementLeft}
-use Rattle.theorems.proofs.Alike.{Alike, coordinators, block-same, hours-rule-same}
-use Rattle.theorems.proofs.FirstIndex.{passes, scan-same}
+use Rattle.statement.specs.Block.{block}
+use Rattle.settlement.specs.Settlement.{neededTo, numbersNeeded, statementTo, termsAt, hoursRefusal, areaRefusal, areasRefusal, acceptedRule}
+use Rattle.settlement.specs.Settlement.{settleWith, afterWith, daysBy, settleBy}
+use Rattle.settlement.specs.Shown.{statementLeftBy}
+use Rattle.settlement.proofs.Accepted.{rule-same, statement-same}
+use Rattle.theorems.specs.Days.{ByNumberAndDays}
+use Rattle.theorems.proofs.Alike.{Alike, coordinators, days, block-same, hours-rule-same}
+use Rattle.theorems.proofs.FirstIndex.{passes}
 
 pub record AlikeFiles (file file′ : List ℕ) : Type 0 where
   pub areas : areasOf file ≡ areasOf file′
   pub peak : peakOf file ≡ peakOf file′
+  pub number : (k : ℕ) → k < areasOf file → numberAt file k ≡ numberAt file′ k
   pub start : (k : ℕ) → k < areasOf file → startAt file k ≡ startAt file′ k
   pub body : (k : ℕ) → k < areasOf file → Alike (bodyAt file k) (bodyAt file′ k)
 
@@ -26,45 +32,56 @@ module _ (file file′ : List ℕ) (alike : AlikeFiles file file′) where
   needed-same zero p = refl
   needed-same (suc n) p = rw (needed-same n (omega arith), coordinators _ _ (alike .body n p))
 
-  days-same : (n : ℕ) → n ≤ areasOf file → fileDays file n ≡ fileDays file′ n
-  unfolding fileDays
-  days-same zero p = refl
-  days-same (suc n) p = ap₂ _++_ (days-same n (omega arith)) (ap (λ d. d ∷ []) (alike .body n p .head 2 (omega arith)))
-
-  module _ (days : List ℕ) where
-    blocks-same : (n : ℕ) → n ≤ areasOf file → statementTo file days n ≡ statementTo file′ days n
-    unfolding statementTo
-    blocks-same zero p = refl
-    blocks-same (suc n) p =
-        rw (← alike .peak) (ap₂ _++_ (blocks-same n (omega arith)) (block-same _ _ (alike .body n p) (peakOf file) (getD days n 0)))
-
-    area-same : (k : ℕ) → k < areasOf file → areaRule days file k ≡ areaRule days file′ k
-    unfolding areaRule
-    area-same k p =
-        hours-rule-same _ _ (alike .body k p) (peakOf file) (getD days k 0) (startAt file k)
-        ∙ ap₂ (λ peak start. hoursRule peak (getD days k 0) start (bodyAt file′ k)) (alike .peak) (alike .start k p)
-
-    areas-same : areasRule days file ≡ areasRule days file′
-    unfolding areasRule
-    areas-same = rw (← alike .areas) (scan-same _ _ 0 (areasOf file) (λ k p. area-same k (omega (arith, p))))
-
   needed : numbersNeeded file ≡ numbersNeeded file′
   needed = rw (← alike .areas) (needed-same (areasOf file) (le-refl _))
 
-  own-days : fileDays file (areasOf file) ≡ fileDays file′ (areasOf file′)
-  own-days = rw (← alike .areas) (days-same (areasOf file) (le-refl _))
+  -- settled with the same days
+  module _ (given : ℕ → ℕ) where
+    blocks-same : (n : ℕ) → n ≤ areasOf file → statementTo given file n ≡ statementTo given file′ n
+    unfolding statementTo
+    blocks-same zero p = refl
+    blocks-same (suc n) p =
+        ap₂ _++_ (blocks-same n (omega arith))
+        (block-same _ _ (alike .body n p) (termsAt given file n)
+        ∙ ap (λ peak. block (record { peak = peak; days = given n }) (bodyAt file′ n)) (alike .peak))
 
-  accepted-same : (room : ℕ) → acceptedRule (fileDays file (areasOf file)) file room ≡ acceptedRule (fileDays file′ (areasOf file′)) file′ room
-  unfolding acceptedRule
-  accepted-same room = rw (← own-days, needed, areas-same (fileDays file (areasOf file)))
+    area-same : (k : ℕ) → k < areasOf file → areaRefusal given file k ≡ areaRefusal given file′ k
+    unfolding areaRefusal
+    area-same k p =
+        hours-rule-same _ _ (alike .body k p) (termsAt given file k) (startAt file k)
+        ∙ ap₂ (λ peak start. hoursRefusal (record { peak = peak; days = given k }) start (bodyAt file′ k)) (alike .peak) (alike .start k p)
 
-  -- the same answer, where the check accepts both
-  pub settle-same : numberOf (checkOf file) ≡ 0 → numberOf (checkOf file′) ≡ 0 → (room : ℕ) → settleOf file room ≡ settleOf file′ room
-  unfolding settleWith
-  settle-same z z′ room = passes (checkOf file) _ z ∙ accepted-same room ∙ sym (passes (checkOf file′) _ z′)
+    areas-same : areasRefusal given file ≡ areasRefusal given file′
+    unfolding areasRefusal
+    areas-same = rw (← alike .areas) (scan-same _ _ 0 (areasOf file) (λ k p. area-same k (omega (arith, p))))
 
-  -- and the same statement
-  pub left-same : numberOf (checkOf file) ≡ 0 → numberOf (checkOf file′) ≡ 0 → (statement : List ℤ) → statementLeft file statement ≡ statementLeft file′ statement
-  unfolding afterWith
-  left-same z z′ statement =
-      rw (settle-same z z′ (length statement), ← own-days, needed, ← alike .areas, blocks-same (fileDays file (areasOf file)) (areasOf file) (le-refl _))
+    accepted-same : (room : ℕ) → acceptedRule given file room ≡ acceptedRule given file′ room
+    unfolding acceptedRule
+    accepted-same room = rw (needed, areas-same)
+
+  -- and under one d
+  module _ (d : ℕ → List ℕ → ℕ) (by : ByNumberAndDays d) (z : numberOf (checkOf file) ≡ 0) (z′ : numberOf (checkOf file′) ≡ 0) where
+    d-same : (k : ℕ) → k < areasOf file′ → daysBy d file k ≡ daysBy d file′ k
+    d-same k p =
+        let q : k < areasOf file = omega (arith, alike .areas) in
+        ap (λ number. d number (bodyAt file k)) (alike .number k q)
+        ∙ by .same (numberAt file′ k) (bodyAt file k) (bodyAt file′ k) (days _ _ (alike .body k q))
+
+    -- the same answer
+    pub settle-same : (room : ℕ) → settleBy d file room ≡ settleBy d file′ room
+    unfolding settleWith
+    settle-same room =
+        passes (checkOf file) _ z
+        ∙ accepted-same (daysBy d file) room ∙ rule-same (daysBy d file) (daysBy d file′) file′ d-same room
+        ∙ sym (passes (checkOf file′) _ z′)
+
+    blocks-too : statementTo (daysBy d file) file (areasOf file) ≡ statementTo (daysBy d file′) file′ (areasOf file′)
+    blocks-too =
+        blocks-same (daysBy d file) (areasOf file) (le-refl _)
+        ∙ ap (statementTo (daysBy d file) file′) (alike .areas)
+        ∙ statement-same (daysBy d file) (daysBy d file′) file′ d-same (areasOf file′) (le-refl _)
+
+    -- and the same statement
+    pub left-same : (statement : List ℤ) → statementLeftBy d file statement ≡ statementLeftBy d file′ statement
+    unfolding afterWith
+    left-same statement = rw (settle-same (length statement), needed, blocks-too)

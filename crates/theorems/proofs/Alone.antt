@@ -1,129 +1,168 @@
--- "areas on their own behave as document 01's order says": an area of a settled file, in a file by itself with the same day and peak hours, is settled, and
--- its block is the block that it had.
+-- Demand 3, areas on their own: an area of a settled file, in a file by itself with the same peak hours, is settled, and its block is the block that it had.
 use Prim.Native.Nat.{ℕ, zero, suc, _≤_, _<_}
 use mathlib.Core.List.{List, [], _∷_}
-use mathlib.Core.Path.{_≡_, refl, sym, ap, _∙_}
+use mathlib.Core.Path.{_≡_, sym, ap, ap₂, _∙_}
 use native.Mathlib.Omega.{arith}
 use lib.IntN.{ℤ}
 use lib.ListN.{length}
-use Rattle.limits.specs.Editions.{editionOne}
+use Rattle.words.specs.Bytes.{Below}
+use Rattle.limits.specs.declared.Limits.{Limits}
+use Rattle.limits.specs.Ranges.{dayHours}
+use Rattle.limits.specs.Editions.{limitsOf}
+use Rattle.limits.proofs.Editions.{plain}
 use Rattle.verdict.specs.Verdict.{numberOf}
-use Rattle.body.specs.Layout.{daysOf, coordinatorsOf}
-use Rattle.dayfile.specs.File.{dayOf, areasOf, peakOf, numberAt, bodyAt}
+use Rattle.body.specs.Layout.{coordinatorsOf}
+use Rattle.body.proofs.Kept.{always}
+use Rattle.dayfile.specs.File.{editionOf, dayOf, areasOf, peakOf, bodyAt}
 use Rattle.dayfile.specs.Check.{checkOf, checkWithin}
-use Rattle.dayfile.proofs.Facts.{file-length, file-head, file-entry, file-sound, body-length}
-use Rattle.parts.specs.Bytes.{Below}
-use Rattle.parts.specs.FileOf.{Area, areaOf, frontOf, fileOf}
-use Rattle.parts.specs.Good.{wordsTo, numberTo, cisoTo, GoodArea, Good}
-use Rattle.parts.proofs.FileOf.{day-there, peak-there, count-there, number-there, body-is}
-use Rattle.parts.proofs.GoodFile.{whole, small, good-accepted}
+use Rattle.dayfile.specs.Parts.{Area, areaOf, frontOf, wordsTo}
+use Rattle.dayfile.proofs.Facts.{file-length, file-head, file-entry, body-length}
+use Rattle.acceptance.proofs.SoundAccepted.{file-sound}
+use Rattle.parts.specs.Good.{numberTo, cisoTo, GoodArea, Good}
+use Rattle.dayfile.proofs.Parts.{peak-there, count-there, number-there, body-is}
+use Rattle.parts.proofs.GoodFile.{whole, small, file-accepted}
 use Rattle.parts.proofs.OwnParts.{size-is}
 use Rattle.parts.proofs.OwnGood.{own-words}
 use Rattle.statement.specs.Block.{areaNumbers, block}
-use Rattle.settlement.specs.Settlement.{neededTo, numbersNeeded, settleOf}
-use Rattle.theorems.specs.Alone.{alone}
-use Rattle.theorems.specs.Shown.{statementLeft, hourShown}
-use Rattle.theorems.proofs.Shown.{hour-shown}
+use Rattle.settlement.specs.Settlement.{neededTo, numbersNeeded, termsBy, ownDays, settleBy}
+use Rattle.settlement.specs.Shown.{statementLeftBy, hourShown}
+use Rattle.settlement.proofs.Accepted.{within}
+use Rattle.settlement.proofs.Shown.{hour-shown}
+use Rattle.theorems.specs.Alone.{AloneFile, alone}
 use Rattle.theorems.proofs.SettledExactly.{HourSettled, settled-says, settled-accepts}
 
+-- ---- of two files that stand so
+
+module _ (k : ℕ) (file other : List ℕ) (a : AloneFile k file other) where
+  needed-one : neededTo other 1 ≡ areaNumbers (coordinatorsOf (bodyAt other 0))
+  unfolding neededTo
+  needed-one = omega arith
+
+  pub alone-needs : numbersNeeded other ≡ areaNumbers (coordinatorsOf (bodyAt file k))
+  alone-needs = ap (neededTo other) (a .one) ∙ needed-one ∙ ap (λ b. areaNumbers (coordinatorsOf b)) (a .body)
+
+  -- it is settled under the same terms, under any d
+  terms-same : (d : ℕ → List ℕ → ℕ) → termsBy d other 0 ≡ termsBy d file k
+  terms-same d = rw (a .peak, ap₂ d (a .number) (a .body))
+
+-- under any d: its block is the block that it had, ..
+abbrev pub AloneBlock : (ℕ → List ℕ → ℕ) → Type 0
+AloneBlock d =
+    (k : ℕ) (file other : List ℕ) → AloneFile k file other → block (termsBy d other 0) (bodyAt other 0) ≡ block (termsBy d file k) (bodyAt file k)
+
+pub alone-block-by : (d : ℕ → List ℕ → ℕ) → AloneBlock d
+alone-block-by d k file other a = rw (terms-same k file other a d, a .body)
+
+-- .. it is settled wherever there is room for its numbers, ..
+abbrev pub AloneSettled : (ℕ → List ℕ → ℕ) → Type 0
+AloneSettled d =
+    (k : ℕ) (file other : List ℕ) → AloneFile k file other → k < areasOf file → numberOf (checkOf other) ≡ 0 → (room room′ : ℕ)
+    → numberOf (settleBy d file room) ≡ 0 → areaNumbers (coordinatorsOf (bodyAt file k)) ≤ room′ → numberOf (settleBy d other room′) ≡ 0
+
+pub alone-settled-by : (d : ℕ → List ℕ → ℕ) → AloneSettled d
+alone-settled-by d k file other a below checked room room′ z fits =
+    settled-accepts d room′ other
+    (record { checked = checked; roomy = omega (arith, alone-needs k file other a, fits); hour = λ j h p q. by j h (omega (arith, p, a .one)) q })
+  where
+    by : (j h : ℕ) → j < 1 → h < dayHours → HourSettled (termsBy d other j) (bodyAt other j) h
+    by zero h p q = rw (terms-same k file other a d, a .body) (settled-says d room file z .hour k h below q)
+    by (suc j) h p q = absurd (omega arith)
+
+-- .. and read off the two statements: every hour shows the numbers that it showed
+abbrev pub AloneShows : (ℕ → List ℕ → ℕ) → Type 0
+AloneShows d =
+    (k : ℕ) (file other : List ℕ) → AloneFile k file other → k < areasOf file → (statement statement′ : List ℤ)
+    → numberOf (settleBy d file (length statement)) ≡ 0 → numberOf (settleBy d other (length statement′)) ≡ 0 → (h : ℕ) → h < dayHours
+    → hourShown other 0 h (statementLeftBy d other statement′) ≡ hourShown file k h (statementLeftBy d file statement)
+
+pub alone-shows-by : (d : ℕ → List ℕ → ℕ) → AloneShows d
+alone-shows-by d k file other a below statement statement′ z y h q =
+    hour-shown d other statement′ y 0 h (omega (arith, a .one)) q
+    ∙ rw (terms-same k file other a d, a .body) (sym (hour-shown d file statement z k h below q))
+
+-- ---- of `settle`
+
+pub alone-block : AloneBlock ownDays
+alone-block = alone-block-by ownDays
+
+pub alone-settled : AloneSettled ownDays
+alone-settled = alone-settled-by ownDays
+
+pub alone-shows : AloneShows ownDays
+alone-shows = alone-shows-by ownDays
+
+-- ---- the file that `alone` makes: it is accepted where the first is, and stands so to it
+
 module _ (file : List ℕ) (k : ℕ) (accepted : numberOf (checkOf file) ≡ 0) (below : k < areasOf file) where
-  within : numberOf (checkWithin editionOne file) ≡ 0
-  unfolding checkOf
-  within = accepted
+  -- the limits that the file's first word sets
+  abbrev limits : Limits
+  limits = limitsOf (editionOf file)
+
+  checked : numberOf (checkWithin limits file) ≡ 0
+  checked = within file accepted
 
   abbrev single : List Area
   single = areaOf file k ∷ []
 
-  good-area : GoodArea editionOne single 0
+  good-area : GoodArea limits single 0
   unfolding numberTo cisoTo
   good-area =
-      let entry = file-entry editionOne file within k below in
-      let size = size-is editionOne file within k below in
+      let entry = file-entry limits file checked k below in
+      let size = size-is limits file checked k below in
+      let sound = file-sound limits file checked k below in
       record {
         rising = omega (arith, entry .rising);
         small = entry .small;
-        whole = omega (arith, size, body-length editionOne file within k below);
+        whole = omega (arith, size, body-length limits file checked k below);
         least = omega (arith, size, entry .least);
         most = omega (arith, size, entry .most-words);
-        sound = file-sound editionOne file within k below;
-        one-ciso = omega (arith, file-sound editionOne file within k below .kind);
+        sound = sound;
+        one-ciso = omega (arith, sound .kind always .0);
       }
 
-  good : Good editionOne (dayOf file) (peakOf file) single
+  good : Good limits (editionOf file) (dayOf file) (peakOf file) single
   unfolding wordsTo
   good =
-      let head = file-head editionOne file within in
-      let entry = file-entry editionOne file within k below in
-      let long = file-length editionOne file within in
+      let head = file-head limits file checked in
+      let entry = file-entry limits file checked k below in
+      let own = own-words limits file checked k (omega arith) in
       record {
+        known = head .edition-known;
         real = head .real;
         some = omega arith;
         few = omega (arith, head .some, head .few);
         peak-known = head .peak-known;
         area = by;
-        fits = omega (arith, size-is editionOne file within k below, entry .inside, entry .here, own-words editionOne file within k (omega arith), head .some, long .most-bytes);
+        fits = λ b. omega (
+          arith,
+          size-is limits file checked k below,
+          entry .inside,
+          entry .here,
+          own,
+          head .some,
+          file-length limits file
+              checked .most-bytes b,
+        );
       }
     where
-      by : (j : ℕ) → j < length single → GoodArea editionOne single j
+      by : (j : ℕ) → j < length single → GoodArea limits single j
       by zero h = good-area
       by (suc j) h = absurd (omega arith)
 
-  edition-bytes : editionOne .bytes ≤ 4294967296
-  unfolding editionOne
-  edition-bytes = omega arith
+  abbrev front : Below 4294967296 (frontOf (editionOf file) (dayOf file) (peakOf file) single)
+  front = small limits (editionOf file) (dayOf file) (peakOf file) single good (plain (editionOf file))
 
-  abbrev front : Below 4294967296 (frontOf (dayOf file) (peakOf file) single)
-  front = small editionOne (dayOf file) (peakOf file) single good edition-bytes
-
-  alone-is : alone file k ≡ fileOf (dayOf file) (peakOf file) single
-  unfolding alone
-  alone-is = refl
-
-  -- the file by itself is accepted
   pub alone-accepted : numberOf (checkOf (alone file k)) ≡ 0
-  unfolding checkOf
-  alone-accepted = rw alone-is (good-accepted editionOne (dayOf file) (peakOf file) single good edition-bytes)
+  unfolding alone
+  alone-accepted = file-accepted (editionOf file) (dayOf file) (peakOf file) single good
 
-  pub alone-day : dayOf (alone file k) ≡ dayOf file
-  alone-day = ap dayOf alone-is ∙ day-there (dayOf file) (peakOf file) single front
-
-  pub alone-peak : peakOf (alone file k) ≡ peakOf file
-  alone-peak = ap peakOf alone-is ∙ peak-there (dayOf file) (peakOf file) single front
-
-  pub alone-one : areasOf (alone file k) ≡ 1
-  alone-one = ap areasOf alone-is ∙ count-there (dayOf file) (peakOf file) single front
-
-  pub alone-number : numberAt (alone file k) 0 ≡ numberAt file k
-  alone-number = ap (λ f. numberAt f 0) alone-is ∙ number-there (dayOf file) (peakOf file) single front 0 (omega arith)
-
-  pub alone-body : bodyAt (alone file k) 0 ≡ bodyAt file k
-  alone-body = ap (λ f. bodyAt f 0) alone-is ∙ body-is (dayOf file) (peakOf file) single front 0 (omega arith) (whole editionOne (dayOf file) (peakOf file) single good edition-bytes)
-
-  needed-one : neededTo (alone file k) 1 ≡ areaNumbers (coordinatorsOf (bodyAt (alone file k) 0))
-  unfolding neededTo
-  needed-one = omega arith
-
-  pub alone-needs : numbersNeeded (alone file k) ≡ areaNumbers (coordinatorsOf (bodyAt file k))
-  alone-needs = ap (neededTo (alone file k)) alone-one ∙ needed-one ∙ ap (λ b. areaNumbers (coordinatorsOf b)) alone-body
-
-  -- its block is the block that it had
-  pub alone-block : block (peakOf (alone file k)) (daysOf (bodyAt (alone file k) 0)) (bodyAt (alone file k) 0) ≡ block (peakOf file) (daysOf (bodyAt file k)) (bodyAt file k)
-  alone-block = rw (alone-peak, alone-body)
-
-  -- and it is settled wherever there is room for its numbers
-  pub alone-settled : (room other : ℕ) → numberOf (settleOf file room) ≡ 0 → areaNumbers (coordinatorsOf (bodyAt file k)) ≤ other
-      → numberOf (settleOf (alone file k) other) ≡ 0
-  alone-settled room other z fits =
-      settled-accepts other (alone file k)
-      (record { checked = alone-accepted; roomy = omega (arith, alone-needs, fits); hour = λ j h p q. by j h (omega (arith, p, alone-one)) q })
-    where
-      by : (j h : ℕ) → j < 1 → h < 24 → HourSettled (peakOf (alone file k)) (daysOf (bodyAt (alone file k) j)) (bodyAt (alone file k) j) h
-      by zero h p q = rw (alone-peak, alone-body) (settled-says room file z .hour k h below q)
-      by (suc j) h p q = absurd (omega arith)
-
-  -- read off the two statements: every hour shows the numbers that it showed
-  pub alone-shows : (statement other : List ℤ) → numberOf (settleOf file (length statement)) ≡ 0 → numberOf (settleOf (alone file k) (length other)) ≡ 0 → (h : ℕ) → h < 24
-      → hourShown (alone file k) 0 h (statementLeft (alone file k) other) ≡ hourShown file k h (statementLeft file statement)
-  alone-shows statement other z y h q =
-      hour-shown (alone file k) other y 0 h (omega (arith, alone-one)) q
-      ∙ rw (alone-peak, alone-body) (sym (hour-shown file statement z k h below q))
+  pub alone-alone : AloneFile k file (alone file k)
+  unfolding alone
+  alone-alone =
+      record {
+        peak = peak-there (editionOf file) (dayOf file) (peakOf file) single front;
+        one = count-there (editionOf file) (dayOf file) (peakOf file) single front;
+        number = number-there (editionOf file) (dayOf file) (peakOf file) single front 0 (omega arith);
+        body = body-is (editionOf file) (dayOf file) (peakOf file) single front 0 (omega arith)
+            (whole limits (editionOf file) (dayOf file) (peakOf file) single good (plain (editionOf file)));
+      }

@@ -10,7 +10,8 @@ use native.Mathlib.Omega.{arith}
 use Rattle.words.specs.Word.{wordAt}
 use Rattle.hour.specs.Layout.{missing, hourWords}
 use Rattle.body.specs.Layout.{hourStart, pointsOf, coordinatorsOf, hourAt, intervalsAt, priceAt, quantityAt}
-use Rattle.theorems.specs.Changed.{ChangedAt, quantityWord, PriceIsMissing}
+use Rattle.words.specs.Bytes.{ChangedAt}
+use Rattle.theorems.specs.Changed.{quantityWord, PriceIsMissing}
 use Rattle.theorems.proofs.Alike.{Alike}
 
 module _ (points coordinators : ℕ) where

@@ -7,15 +7,18 @@ use native.Mathlib.Decide.{ℕ-discrete, decLt}
 use native.Mathlib.Nat.{eq-or-lt-of-le, le-of-suc-le-suc}
 use native.Mathlib.Omega.{arith}
 use lib.ListN.{length, getD, take, drop, length-take, length-drop, List·getD-eq-default}
-use Rattle.limits.specs.Editions.{editionOne}
+use Rattle.limits.specs.declared.Limits.{Limits}
+use Rattle.limits.specs.Editions.{limitsOf}
 use Rattle.words.specs.Word.{wordAt}
 use Rattle.words.proofs.Part.{word-part}
 use Rattle.verdict.specs.Verdict.{numberOf}
-use Rattle.body.proofs.Facts.{hour-inside}
-use Rattle.dayfile.specs.File.{areasOf, startAt, sizeAt, dueAt, bodyAt}
+use Rattle.body.proofs.Kept.{hour-inside}
+use Rattle.dayfile.specs.File.{editionOf, areasOf, startAt, sizeAt, dueAt, bodyAt}
 use Rattle.dayfile.specs.Check.{checkOf, checkWithin}
-use Rattle.dayfile.proofs.Facts.{file-entry, file-sound, body-length}
-use Rattle.theorems.specs.Changed.{ChangedAt, quantityWord, PriceIsMissing}
+use Rattle.acceptance.proofs.SoundAccepted.{file-sound}
+use Rattle.dayfile.proofs.Facts.{file-entry, body-length}
+use Rattle.words.specs.Bytes.{ChangedAt}
+use Rattle.theorems.specs.Changed.{quantityWord, PriceIsMissing}
 use Rattle.theorems.proofs.Alike.{same-alike}
 use Rattle.theorems.proofs.AlikeFiles.{AlikeFiles}
 use Rattle.theorems.proofs.ChangedBody.{changed-alike}
@@ -32,7 +35,13 @@ module _ (start count : ℕ) where
   word-past : (bytes : List ℕ) (m : ℕ) → count ≤ m → wordAt (part bytes start count) m ≡ 0
   unfolding wordAt
   word-past bytes m h =
-      rw (past bytes m (4 * m) h (omega arith), past bytes m (4 * m + 1) h (omega arith), past bytes m (4 * m + 2) h (omega arith), past bytes m (4 * m + 3) h (omega arith))
+      rw (
+        past bytes m (4 * m) h (omega arith),
+        past bytes m (4 * m + 1) h (omega arith),
+        past bytes m (4 * m + 2) h (omega arith),
+        past bytes m (4 * m + 3) h
+            (omega arith),
+      )
 
   part-word : (bytes bytes′ : List ℕ) (m : ℕ) → (m < count → wordAt bytes (start + m) ≡ wordAt bytes′ (start + m))
       → wordAt (part bytes start count) m ≡ wordAt (part bytes′ start count) m
@@ -47,12 +56,16 @@ module _ (start count : ℕ) where
 -- ---- where the bodies of an accepted file stand: behind the contents, and none in another
 
 module _ (file : List ℕ) (accepted : numberOf (checkOf file) ≡ 0) where
-  pub checked : numberOf (checkWithin editionOne file) ≡ 0
+  -- the limits that the file's first word sets
+  abbrev limits : Limits
+  limits = limitsOf (editionOf file)
+
+  pub checked : numberOf (checkWithin limits file) ≡ 0
   unfolding checkOf
   checked = accepted
 
   due : (k : ℕ) → k < areasOf file → startAt file k ≡ dueAt file (areasOf file) k
-  due k p = file-entry editionOne file checked k p .here
+  due k p = file-entry limits file checked k p .here
 
   behind-contents : (k : ℕ) → k < areasOf file → 4 + 3 * areasOf file ≤ startAt file k
   unfolding dueAt
@@ -71,10 +84,11 @@ module _ (file : List ℕ) (accepted : numberOf (checkOf file) ≡ 0) where
   module _ (k h i : ℕ) (area : k < areasOf file) (gone : PriceIsMissing (bodyAt file k) h i) where
     pub inside : quantityWord (bodyAt file k) h i < sizeAt file k
     inside =
-        omega (arith, hour-inside (editionOne .points) (bodyAt file k) (file-sound editionOne file checked k area) h (gone .hour), body-length editionOne file checked k area, gone .interval)
+        let hour = hour-inside (limits .points) (bodyAt file k) (file-sound limits file checked k area) h (gone .hour) in
+        omega (arith, hour, body-length limits file checked k area, gone .interval)
 
     pub inside-file : 4 * (startAt file k + quantityWord (bodyAt file k) h i) + 4 ≤ length file
-    inside-file = omega (arith, inside, file-entry editionOne file checked k area .inside)
+    inside-file = omega (arith, inside, file-entry limits file checked k area .inside)
 
     -- ---- and so what the change leaves
 
@@ -108,6 +122,7 @@ module _ (file : List ℕ) (accepted : numberOf (checkOf file) ≡ 0) where
           record {
             areas = contents-same 2 (omega arith);
             peak = contents-same 3 (omega arith);
+            number = λ j p. contents-same _ (omega arith);
             start = λ j p. contents-same _ (omega arith);
             body = λ j p.
                 dite (ℕ-discrete j k)

@@ -1,7 +1,7 @@
 -- A scan that refuses answers what the first index answers whose part refuses; and such an index, where there is one, decides the scan.
 use Prim.Native.Nat.{ℕ, zero, suc, _+_, _≤_, _<_}
 use mathlib.Core.Logic.{⊎-elim, dite}
-use mathlib.Core.Path.{_≡_, refl, sym, ap, ap₂, _∙_}
+use mathlib.Core.Path.{_≡_, refl, sym, ap, _∙_}
 use native.Mathlib.Decide.{ℕ-discrete}
 use native.Mathlib.Nat.{eq-or-lt-of-le}
 use native.Mathlib.Omega.{arith}
@@ -58,16 +58,3 @@ first-of part k (suc n) r =
     (later .0, one-more part k n (later .0) z (later .1)))
     (λ refuses.
     (k, record { from = omega arith; below = omega arith; refuses = refuses; before = λ j p q. absurd (omega arith) }))
-
--- so a scan whose parts all accept accepts
-pub all-accept : (part : ℕ → Verdict) (n : ℕ) → ((i : ℕ) → i < n → numberOf (part i) ≡ 0) → numberOf (scan part 0 n) ≡ 0
-all-accept part n each =
-    dite (ℕ-discrete (numberOf (scan part 0 n)) 0)
-    (λ z. z)
-    (λ r. let found = first-of part 0 n r in absurd (found .1 .refuses (each (found .0) (omega (arith, found .1 .below)))))
-
--- scans whose parts are the same
-pub scan-same : (part part′ : ℕ → Verdict) (k n : ℕ) → ((i : ℕ) → i < k + n → part i ≡ part′ i) → scan part k n ≡ scan part′ k n
-unfolding scan
-scan-same part part′ k zero same = refl
-scan-same part part′ k (suc n) same = ap₂ _orElse_ (same k (omega arith)) (scan-same part part′ (suc k) n (λ i p. same i (omega arith)))

@@ -8,7 +8,7 @@ use native.Mathlib.Nat.{eq-or-lt-of-le, le-of-suc-le-suc, zero-mul, suc-mul, mul
 use native.Mathlib.Omega.{arith}
 use lib.ListN.{length, getD, take, drop, length-append, length-take, length-drop, List·getD-append}
 use lib.Seq.{getD-append-add, getD-at, getD-take, getD-drop, length-take-le}
-use Rattle.parts.specs.Bytes.{Below}
+use Rattle.words.specs.Bytes.{Below}
 use Rattle.shares.specs.Shares.{mergedAt}
 use Rattle.theorems.specs.Merge.{joined}
 
@@ -16,10 +16,12 @@ module _ (f : ℕ → List ℕ) (width : ℕ) where
   pub joined-length : (m : ℕ) → ((h : ℕ) → h < m → length (f h) ≡ width) → length (joined f m) ≡ m * width
   unfolding joined
   joined-length zero each = sym (zero-mul width)
-  joined-length (suc m) each = length-append (joined f m) (f m) ∙ omega (arith, joined-length m (λ h p. each h (omega arith)), each m (omega arith), suc-mul m width)
+  joined-length (suc m) each =
+      length-append (joined f m) (f m) ∙ omega (arith, joined-length m (λ h p. each h (omega arith)), each m (omega arith), suc-mul m width)
 
   -- word j of list h
-  pub joined-at : (m : ℕ) → ((h : ℕ) → h < m → length (f h) ≡ width) → (h j : ℕ) → h < m → j < width → getD (joined f m) (h * width + j) 0 ≡ getD (f h) j 0
+  pub joined-at : (m : ℕ) → ((h : ℕ) → h < m → length (f h) ≡ width) → (h j : ℕ) → h < m → j < width
+      → getD (joined f m) (h * width + j) 0 ≡ getD (f h) j 0
   unfolding joined
   joined-at zero each h j p q = absurd (omega arith)
   joined-at (suc m) each h j p q =
@@ -36,9 +38,6 @@ module _ (f : ℕ → List ℕ) (width : ℕ) where
 module _ (add : List ℕ → ℕ) (i n : ℕ) (xs : List ℕ) (inside : i + n ≤ length xs) where
   front : length (take i xs) ≡ i
   front = length-take-le i xs (omega arith)
-
-  pub merged-length : length (mergedAt add i n xs) + n ≡ length xs + 1
-  merged-length = rw (length-append (take i xs), front, length-drop (i + n) xs) (omega arith)
 
   pub merged-before : (j : ℕ) → j < i → getD (mergedAt add i n xs) j 0 ≡ getD xs j 0
   merged-before j h = List·getD-append (take i xs) (add (take n (drop i xs)) ∷ drop (i + n) xs) 0 j (omega (arith, front)) ∙ getD-take i xs j 0 h
@@ -83,8 +82,10 @@ module _ (bound : ℕ) where
       by zero h = a
       by (suc j) h = b .each j (omega arith)
 
-  pub below-merged : (add : List ℕ → ℕ) (i n : ℕ) (xs : List ℕ) → add (take n (drop i xs)) < bound → Below bound xs → Below bound (mergedAt add i n xs)
-  below-merged add i n xs a b = below-append (take i xs) _ (below-front i xs b) (below-cons (add (take n (drop i xs))) (drop (i + n) xs) a (below-back (i + n) xs b))
+  pub below-merged : (add : List ℕ → ℕ) (i n : ℕ) (xs : List ℕ) → add (take n (drop i xs)) < bound → Below bound xs
+      → Below bound (mergedAt add i n xs)
+  below-merged add i n xs a b =
+      below-append (take i xs) _ (below-front i xs b) (below-cons (add (take n (drop i xs))) (drop (i + n) xs) a (below-back (i + n) xs b))
 
   pub below-joined : (f : ℕ → List ℕ) (m : ℕ) → ((h : ℕ) → h < m → Below bound (f h)) → Below bound (joined f m)
   unfolding joined

@@ -1,5 +1,5 @@
 -- The file that is constructed with neighbours of the CISO area merged: it is accepted where the first is, and alike but for that.
-use Prim.Native.Nat.{ℕ, zero, suc, _*_, _≤_, _<_}
+use Prim.Native.Nat.{ℕ, zero, suc, _*_, _<_}
 use mathlib.Core.List.{List, [], _∷_, map}
 use mathlib.Core.Logic.{dite}
 use mathlib.Core.Path.{_≡_, refl, ap, _∙_}
@@ -7,20 +7,24 @@ use native.Mathlib.Decide.{ℕ-discrete}
 use native.Mathlib.Omega.{arith}
 use lib.ListN.{length, drop, length-map}
 use borrow.Author.Tests.{eq-eqb, ne-eqb}
-use Rattle.limits.specs.Editions.{editionOne}
+use Rattle.limits.specs.declared.Limits.{Limits}
+use Rattle.limits.specs.Editions.{limitsOf}
+use Rattle.limits.proofs.Editions.{plain}
 use Rattle.verdict.specs.Verdict.{numberOf}
 use Rattle.body.specs.Layout.{kindOf}
-use Rattle.body.specs.Sound.{Sound}
-use Rattle.dayfile.specs.File.{dayOf, peakOf, areasOf, numberAt, startAt, sizeAt, bodyAt}
+use Rattle.body.specs.Kept.{Sound}
+use Rattle.body.proofs.Kept.{always, sound-size}
+use Rattle.dayfile.specs.File.{editionOf, dayOf, peakOf, areasOf, numberAt, startAt, sizeAt, bodyAt}
 use Rattle.dayfile.specs.Check.{checkOf, checkWithin}
-use Rattle.dayfile.proofs.Facts.{file-sound}
-use Rattle.parts.specs.Bytes.{Below}
-use Rattle.parts.specs.FileOf.{Area, areaOf, frontOf, partsOf}
-use Rattle.parts.specs.Good.{areaAt, Good}
-use Rattle.parts.proofs.FileOf.{day-there, peak-there, count-there, number-there, body-is}
-use Rattle.parts.proofs.GoodFile.{whole, small, good-accepted}
+use Rattle.acceptance.proofs.SoundAccepted.{file-sound}
+use Rattle.words.specs.Bytes.{Below}
+use Rattle.dayfile.specs.Parts.{Area, areaOf, frontOf, partsOf, areaAt}
+use Rattle.parts.specs.Good.{Good}
+use Rattle.dayfile.proofs.Parts.{peak-there, count-there, number-there, body-is}
+use Rattle.parts.proofs.GoodFile.{whole, small, file-accepted}
 use Rattle.parts.proofs.OwnParts.{areas-count}
 use Rattle.parts.proofs.OwnGood.{own-area, own-good, Replaced, replaced-good}
+use Rattle.settlement.proofs.Accepted.{within}
 use Rattle.theorems.specs.Merge.{Mergeable, MergedFile, mergedBody, mergedArea, merge}
 use Rattle.theorems.proofs.Joined.{below-front, below-back}
 use Rattle.theorems.proofs.MergeWords.{other-length, head-is, built}
@@ -40,9 +44,12 @@ module _ (i n number : ℕ) (area : Area) where
 
 module _ (i n number : ℕ) (file : List ℕ) (accepted : numberOf (checkOf file) ≡ 0) (bytes : Below 256 file)
     (mergeable : (k : ℕ) → k < areasOf file → kindOf (bodyAt file k) ≡ 1 → Mergeable i n number (bodyAt file k)) where
-  within : numberOf (checkWithin editionOne file) ≡ 0
-  unfolding checkOf
-  within = accepted
+  -- the limits that the file's first word sets
+  abbrev limits : Limits
+  limits = limitsOf (editionOf file)
+
+  checked : numberOf (checkWithin limits file) ≡ 0
+  checked = within file accepted
 
   abbrev others : List Area
   others = map (mergedArea i n number) (partsOf file)
@@ -51,7 +58,7 @@ module _ (i n number : ℕ) (file : List ℕ) (accepted : numberOf (checkOf file
   body-bytes k = below-front 256 (4 * sizeAt file k) (drop (4 * startAt file k) file) (below-back 256 (4 * startAt file k) file bytes)
 
   count-own : length (partsOf file) ≡ areasOf file
-  count-own = areas-count editionOne file within 0 (areasOf file)
+  count-own = areas-count limits file checked 0 (areasOf file)
 
   there : (k : ℕ) → k < areasOf file → areaAt others k ≡ mergedArea i n number (areaOf file k)
   there k h = map-at (mergedArea i n number) (partsOf file) k (omega (arith, h, count-own)) ∙ ap (mergedArea i n number) (own-area file k h)
@@ -60,71 +67,67 @@ module _ (i n number : ℕ) (file : List ℕ) (accepted : numberOf (checkOf file
     abbrev body : List ℕ
     body = bodyAt file k
 
-    sound : Sound (editionOne .points) body
-    sound = file-sound editionOne file within k below
+    sound : Sound (limits .points) body
+    sound = file-sound limits file checked k below
 
-    replaced-ciso : kindOf body ≡ 1 → Replaced editionOne (areaOf file k) (record { number = numberAt file k; body = mergedBody i n number body })
+    replaced-ciso : kindOf body ≡ 1 → Replaced limits (areaOf file k) (record { number = numberAt file k; body = mergedBody i n number body })
     replaced-ciso e =
         let g = mergeable k below e in
-        let most = editionOne .points in
+        let most = limits .points in
         let long = other-length most i n number body g sound (body-bytes k) in
         record {
           number = refl;
           kind = head-is most i n number body g sound (body-bytes k) 0 (omega arith);
           whole = omega (arith, long);
-          least = omega (arith, long, sound .points .0, g .inside);
-          not-longer = omega (arith, long, sound .size, g .some);
+          least = omega (arith, long, sound .points always .0, g .inside);
+          not-longer = omega (arith, long, sound-size most body sound, g .some);
           sound = merged-sound most i n number body g sound (body-bytes k);
         }
 
-    replaced-rest : Good editionOne (dayOf file) (peakOf file) (partsOf file) → Replaced editionOne (areaOf file k) (areaOf file k)
+    replaced-rest : Good limits (editionOf file) (dayOf file) (peakOf file) (partsOf file) → Replaced limits (areaOf file k) (areaOf file k)
     replaced-rest good =
         let was = good .area k (omega (arith, count-own)) in
         let e = own-area file k below in
         record { number = refl; kind = refl; whole = rw e at (was .whole); least = rw e at (was .least); not-longer = omega arith; sound = sound }
 
-  good : Good editionOne (dayOf file) (peakOf file) others
+  good : Good limits (editionOf file) (dayOf file) (peakOf file) others
   good =
-      let own = own-good editionOne file within in
-      replaced-good editionOne (dayOf file) (peakOf file) (partsOf file) others (length-map (partsOf file) (mergedArea i n number)) (λ k h. by own k (omega (arith, h, count-own))) own
+      let own = own-good limits file checked in
+      replaced-good limits (editionOf file) (dayOf file) (peakOf file) (partsOf file) others (length-map (partsOf file) (mergedArea i n number))
+      (λ k h. by own k (omega (arith, h, count-own))) own
     where
-      by : Good editionOne (dayOf file) (peakOf file) (partsOf file) → (k : ℕ) → k < areasOf file → Replaced editionOne (areaAt (partsOf file) k) (areaAt others k)
+      by : Good limits (editionOf file) (dayOf file) (peakOf file) (partsOf file) → (k : ℕ) → k < areasOf file
+          → Replaced limits (areaAt (partsOf file) k) (areaAt others k)
       by own k h =
           rw (own-area file k h, there k h)
           (dite (ℕ-discrete (kindOf (bodyAt file k)) 1)
           (λ e. rw (area-merged i n number (areaOf file k) e) (replaced-ciso k h e))
           (λ e. rw (area-kept i n number (areaOf file k) e) (replaced-rest k h own)))
 
-  edition-bytes : editionOne .bytes ≤ 4294967296
-  unfolding editionOne
-  edition-bytes = omega arith
-
-  abbrev front : Below 4294967296 (frontOf (dayOf file) (peakOf file) others)
-  front = small editionOne (dayOf file) (peakOf file) others good edition-bytes
+  abbrev front : Below 4294967296 (frontOf (editionOf file) (dayOf file) (peakOf file) others)
+  front = small limits (editionOf file) (dayOf file) (peakOf file) others good (plain (editionOf file))
 
   count-others : length others ≡ areasOf file
   count-others = length-map (partsOf file) (mergedArea i n number) ∙ count-own
 
-  day-same : dayOf (merge i n number file) ≡ dayOf file
-  unfolding merge
-  day-same = day-there (dayOf file) (peakOf file) others front
-
   peak-same : peakOf (merge i n number file) ≡ peakOf file
   unfolding merge
-  peak-same = peak-there (dayOf file) (peakOf file) others front
+  peak-same = peak-there (editionOf file) (dayOf file) (peakOf file) others front
 
   areas-same : areasOf (merge i n number file) ≡ areasOf file
   unfolding merge
-  areas-same = count-there (dayOf file) (peakOf file) others front ∙ count-others
+  areas-same = count-there (editionOf file) (dayOf file) (peakOf file) others front ∙ count-others
 
   number-same : (k : ℕ) → k < areasOf file → numberAt (merge i n number file) k ≡ numberAt file k
   unfolding merge
-  number-same k h = number-there (dayOf file) (peakOf file) others front k (omega (arith, h, count-others)) ∙ ap (λ a. a .number) (there k h)
+  number-same k h =
+      number-there (editionOf file) (dayOf file) (peakOf file) others front k (omega (arith, h, count-others)) ∙ ap (λ a. a .number) (there k h)
 
   body-there : (k : ℕ) → k < areasOf file → bodyAt (merge i n number file) k ≡ mergedArea i n number (areaOf file k) .body
   unfolding merge
   body-there k h =
-      body-is (dayOf file) (peakOf file) others front k (omega (arith, h, count-others)) (whole editionOne (dayOf file) (peakOf file) others good edition-bytes)
+      body-is (editionOf file) (dayOf file) (peakOf file) others front k (omega (arith, h, count-others))
+      (whole limits (editionOf file) (dayOf file) (peakOf file) others good (plain (editionOf file)))
       ∙ ap (λ a. a .body) (there k h)
 
   ciso-there : (k : ℕ) → k < areasOf file → kindOf (bodyAt file k) ≡ 1 → bodyAt (merge i n number file) k ≡ mergedBody i n number (bodyAt file k)
@@ -132,17 +135,16 @@ module _ (i n number : ℕ) (file : List ℕ) (accepted : numberOf (checkOf file
 
   -- the file is accepted where the first is
   pub merge-accepted : numberOf (checkOf (merge i n number file)) ≡ 0
-  unfolding merge checkOf
-  merge-accepted = good-accepted editionOne (dayOf file) (peakOf file) others good edition-bytes
+  unfolding merge
+  merge-accepted = file-accepted (editionOf file) (dayOf file) (peakOf file) others good
 
   -- and is the first file but that the neighbours are one
   pub merge-merges : MergedFile i n file (merge i n number file)
   merge-merges =
       record {
-        day = day-same;
         peak = peak-same;
         areas = areas-same;
         number = number-same;
-        ciso = λ k h e. rw (ciso-there k h e) (built (editionOne .points) i n number (bodyAt file k) (mergeable k h e) (sound k h) (body-bytes k));
+        ciso = λ k h e. rw (ciso-there k h e) (built (limits .points) i n number (bodyAt file k) (mergeable k h e) (sound k h) (body-bytes k));
         rest = λ k h e. body-there k h ∙ ap (λ a. a .body) (area-kept i n number (areaOf file k) e);
       }

@@ -5,28 +5,32 @@ use mathlib.Core.Logic.{dite, ⊎-elim}
 use mathlib.Core.Path.{_≡_, refl, sym, ap, _∙_}
 use native.Mathlib.Decide.{decLt, le-ind}
 use native.Mathlib.Nat.{eq-or-lt-of-le, le-refl, le-trans}
+use native.Mathlib.Numerals.{add-one}
 use native.Mathlib.Omega.{arith}
 use lib.ListN.{length}
 use Rattle.words.specs.Word.{wordAt}
-use Rattle.hour.specs.Layout.{runningDemand}
+use Rattle.exact.specs.Total.{total}
+use Rattle.words.proofs.Totals.{total-more}
+use Rattle.limits.specs.Ranges.{dayHours, largestNumber}
+use Rattle.hour.specs.Kept.{DemandKept}
 use Rattle.body.specs.Layout.{coordinatorsOf, coordinatorAt, coordinatorBefore, demandsAt, demandAt}
-use Rattle.body.specs.Sound.{Sound}
-use Rattle.body.proofs.Facts.{hour-demand}
-use Rattle.parts.specs.Bytes.{Below, wordsFrom}
-use Rattle.parts.proofs.Words.{words-count, words-at}
+use Rattle.body.specs.Kept.{Sound}
+use Rattle.body.proofs.Kept.{always, hour-demand}
+use Rattle.words.specs.Bytes.{Below, wordsFrom}
+use Rattle.words.proofs.Words.{words-count, words-at}
 use Rattle.theorems.specs.Merge.{Mergeable, Merged, mergedBody}
 use Rattle.theorems.proofs.Joined.{merged-before, merged-there, merged-behind}
 use Rattle.theorems.proofs.SameHours.{quantity-same, price-same}
 use Rattle.theorems.proofs.MergedBody.{demand-same}
 use Rattle.theorems.proofs.MergeWords.{other-length, head-is, count-is, coordinator-is, built}
 
-running-grows : (body : List ℕ) (from j m : ℕ) → j ≤ m → runningDemand body from j ≤ runningDemand body from m
-unfolding runningDemand
-running-grows body from j m h = le-ind (λ k. runningDemand body from j ≤ runningDemand body from k) (le-refl _) (λ k _ p. le-trans p (omega arith)) m h
+running-next : (body : List ℕ) (from j : ℕ) → total (wordsFrom body from (suc j)) ≡ total (wordsFrom body from j) + wordAt body (from + j)
+running-next body from j = rw (← add-one j) (total-more body from j)
 
-running-next : (body : List ℕ) (from j : ℕ) → runningDemand body from (suc j) ≡ runningDemand body from j + wordAt body (from + j)
-unfolding runningDemand
-running-next body from j = refl
+running-grows : (body : List ℕ) (from j m : ℕ) → j ≤ m → total (wordsFrom body from j) ≤ total (wordsFrom body from m)
+running-grows body from j m h =
+    le-ind (λ k. total (wordsFrom body from j) ≤ total (wordsFrom body from k)) (le-refl _)
+    (λ k _ p. le-trans p (omega (arith, running-next body from k))) m h
 
 before-first : (body : List ℕ) → coordinatorBefore body 0 ≡ 0
 unfolding coordinatorBefore
@@ -77,14 +81,14 @@ module _ (most i n number : ℕ) (body : List ℕ) (g : Mergeable i n number bod
   before-same (suc j) h = before-next other j ∙ at-before j h ∙ sym (before-next body j)
 
   abbrev Rises : ℕ → Type 0
-  Rises j = (coordinatorBefore other j < coordinatorAt other j) × (coordinatorAt other j ≤ 2147483647)
+  Rises j = (coordinatorBefore other j < coordinatorAt other j) × (coordinatorAt other j ≤ largestNumber)
 
   rises-behind : (j : ℕ) → i ≤ j → suc j < fewer → Rises (suc j)
   rises-behind j h l =
       let back : suc j + n - 1 ≡ j + n = omega arith in
       let here : coordinatorAt other (suc j) ≡ coordinatorAt body (j + n) = at-behind (suc j) (omega arith) l ∙ ap (coordinatorAt body) back in
       let inside : j + n < count = omega (arith, g .inside, g .some) in
-      let from = sound .coordinator (j + n) inside in
+      let from = sound .coordinator (j + n) inside always in
       rw (before-next other j, here) (
         ⊎-elim
             (λ (e : i ≡ j).
@@ -101,7 +105,7 @@ module _ (most i n number : ℕ) (body : List ℕ) (g : Mergeable i n number bod
   rises : (j : ℕ) → j < fewer → Rises j
   rises j l =
       dite (decLt j i)
-      (λ p. rw (before-same j (omega arith), at-before j p) (sound .coordinator j (omega (arith, p, g .inside))))
+      (λ p. rw (before-same j (omega arith), at-before j p) (sound .coordinator j (omega (arith, p, g .inside)) always))
       (λ p. ⊎-elim
       (λ (e : i ≡ j). rw (← e, before-same i (omega arith), at-there) (g .above, g .small))
       (λ (q : i < j). behind j q l)
@@ -113,9 +117,9 @@ module _ (most i n number : ℕ) (body : List ℕ) (g : Mergeable i n number bod
 
   -- ---- the demands
 
-  demand-kept : (h j : ℕ) → h < 24 → j < coordinatorsOf other → (demandAt other h j ≤ 100000000) × (runningDemand other (demandsAt other h) j + demandAt other h j ≤ 100000000)
-  demand-kept h j p q =
-      let all = demand-same i n body other m 0 0 h p in
+  demand-there : (h j : ℕ) → h < dayHours → j < coordinatorsOf other → DemandKept (total (wordsFrom other (demandsAt other h) j)) (demandAt other h j)
+  demand-there h j p q =
+      let all = demand-same i n body other m h p in
       let up = running-grows other (demandsAt other h) (suc j) (coordinatorsOf other) q in
       let next = running-next other (demandsAt other h) j in
       let most-demand = hour-demand most body sound h p count (omega arith) in
@@ -126,20 +130,24 @@ module _ (most i n number : ℕ) (body : List ℕ) (g : Mergeable i n number bod
       let same = m .same in
       let points = head-is most i n number body g sound bytes 5 (omega arith) in
       let fewer-is = count-is most i n number body g sound bytes in
+      let long = other-length most i n number body g sound bytes in
       record {
-        size = omega (arith, other-length most i n number body g sound bytes, points, fewer-is);
-        kind = rw (same .head 0 (omega arith)) (sound .kind);
-        flag = rw (same .head 1 (omega arith)) (sound .flag);
-        days = rw (same .head 2 (omega arith)) (sound .days);
-        hub-a = rw (same .head 3 (omega arith)) (sound .hub-a);
-        hub-b = rw (same .head 4 (omega arith)) (sound .hub-b);
-        points = rw points (sound .points);
-        coordinators = (omega (arith, fewer-is, g .inside, g .some), rw (same .head 0 (omega arith)) (omega (arith, fewer-is, g .some, sound .coordinators .1)));
-        coordinator = λ j p. rises j (omega (arith, p, fewer-is));
-        deficiency = λ h j p q. rw (same .hour h j p (omega arith)) (sound .deficiency h j p q);
-        requirement = λ h p. rw (same .hour h 6 p (omega arith)) (sound .requirement h p);
-        mec = λ h p. rw (same .hour h 7 p (omega arith)) (sound .mec h p);
-        quantity = λ h j p q. rw (quantity-same body other same h j p (omega (arith, q, points))) (sound .quantity h j p (omega (arith, q, points)));
-        price = λ h j p q. rw (price-same body other same h j p (omega (arith, q, points))) (sound .price h j p (omega (arith, q, points)));
-        demand = demand-kept;
+        kind = λ a. rw (same .head 0 (omega arith)) (sound .kind a);
+        flag = λ a. rw (same .head 1 (omega arith)) (sound .flag a);
+        days = λ a. rw (same .head 2 (omega arith)) (sound .days a);
+        hub-a = λ a. rw (same .head 3 (omega arith)) (sound .hub-a a);
+        hub-b = λ a. rw (same .head 4 (omega arith)) (sound .hub-b a);
+        points = λ a. rw points (sound .points a);
+        coordinators = λ a. (
+          omega (arith, fewer-is, g .inside, g .some),
+          rw (same .head 0 (omega arith)) (omega (arith, fewer-is, g .some, sound .coordinators a .1)),
+          omega (arith, long, points, fewer-is),
+        );
+        coordinator = λ j p a. rises j (omega (arith, p, fewer-is));
+        deficiency = λ h j p q a. rw (same .hour h j p (omega arith)) (sound .deficiency h j p q a);
+        requirement = λ h p a. rw (same .hour h 6 p (omega arith)) (sound .requirement h p a);
+        mec = λ h p a. rw (same .hour h 7 p (omega arith)) (sound .mec h p a);
+        quantity = λ h j p q a. rw (quantity-same body other same h j p (omega (arith, q, points))) (sound .quantity h j p (omega (arith, q, points)) a);
+        price = λ h j p q a. rw (price-same body other same h j p (omega (arith, q, points))) (sound .price h j p (omega (arith, q, points)) a);
+        demand = λ h j p q a. demand-there h j p q;
       }

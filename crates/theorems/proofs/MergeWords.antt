@@ -7,19 +7,20 @@ use lib.ListN.{length, getD, take, drop, length-append, take-append-drop, List·
 use lib.Seq.{getD-append-add, getD-at, ext-getD}
 use Rattle.words.specs.Word.{wordAt}
 use Rattle.hour.specs.Layout.{hourWords}
-use Rattle.body.specs.Layout.{kindOf, pointsOf, coordinatorsOf, bodyWords, hourStart, hourAt, demandsAt}
-use Rattle.body.specs.Sound.{Sound}
-use Rattle.body.proofs.Facts.{hour-demand}
+use Rattle.limits.specs.Ranges.{dayHours, mostDemand, mostCoordinators}
+use Rattle.body.specs.Layout.{kindOf, pointsOf, coordinatorsOf, bodyWords, hourStart, hourAt, demandsAt, demandsOf}
+use Rattle.body.specs.Kept.{Sound}
+use Rattle.body.proofs.Kept.{always, hour-demand}
 use Rattle.body.proofs.HourPlaces.{hour-room}
-use Rattle.parts.specs.Bytes.{wordsBytes, wordsFrom, Below}
-use Rattle.parts.proofs.Words.{words-length, word-written, words-count, words-at, word-below}
-use Rattle.shares.specs.Shares.{total, mergedAt}
-use Rattle.shares.proofs.Totals.{total-append}
-use Rattle.statement.proofs.Demands.{demand-length, demand-total}
+use Rattle.words.specs.Bytes.{wordsBytes, wordsFrom, Below}
+use Rattle.words.proofs.Words.{words-length, word-written, words-count, words-at, word-below}
+use Rattle.exact.specs.Total.{total}
+use Rattle.shares.proofs.Merged.{merged-length}
+use Rattle.shares.specs.Shares.{mergedAt}
+use Rattle.exact.proofs.Totals.{total-append}
 use Rattle.settlement.proofs.Places.{few-coordinators}
-use Rattle.theorems.specs.Merge.{Merged, Mergeable, demandsOf, joined, mergedFront, mergedHour, mergedBody}
-use Rattle.theorems.proofs.Demands.{demand-is}
-use Rattle.theorems.proofs.Joined.{joined-length, joined-at, merged-length, below-append, below-cons, below-merged, below-joined}
+use Rattle.theorems.specs.Merge.{Merged, Mergeable, joined, mergedFront, mergedHour, mergedBody}
+use Rattle.theorems.proofs.Joined.{joined-length, joined-at, below-append, below-cons, below-merged, below-joined}
 
 start-is : (points coordinators h : ℕ) → hourStart points coordinators h ≡ 7 + coordinators + h * hourWords points coordinators
 unfolding hourStart
@@ -47,28 +48,34 @@ module _ (most i n number : ℕ) (body : List ℕ) (g : Mergeable i n number bod
   other = mergedBody i n number body
 
   abbrev words : List ℕ
-  words = mergedFront i n number body ++ joined (mergedHour i n number body) 24
+  words = mergedFront i n number body ++ joined (mergedHour i n number body) dayHours
 
   -- ---- lengths
 
-  demands-total : (h : ℕ) → h < 24 → total (demandsOf body h) ≤ 100000000
-  demands-total h p = rw (demand-total body (demandsAt body h) count) (hour-demand most body sound h p count (omega arith))
+  demands-total : (h : ℕ) → h < dayHours → total (demandsOf body h) ≤ mostDemand
+  demands-total h p = hour-demand most body sound h p count (omega arith)
 
   front-length : length (mergedFront i n number body) ≡ 7 + fewer
   front-length =
       let numbers = wordsFrom body 7 count in
       length-append (wordsFrom body 0 6) _
-      ∙ omega (arith, words-count body 0 6, words-count body 7 count, merged-length (λ _. number) i n numbers (omega (arith, words-count body 7 count, g .inside)))
+      ∙ omega (
+        arith,
+        words-count body 0 6,
+        words-count body 7 count,
+        merged-length (λ _. number) i n numbers
+            (omega (arith, words-count body 7 count, g .inside)),
+      )
 
   hour-length : (h : ℕ) → length (mergedHour i n number body h) ≡ hourWords points fewer
   hour-length h =
       let ds = demandsOf body h in
-      let long = demand-length body (demandsAt body h) count in
+      let long = words-count body (demandsAt body h) count in
       length-append (wordsFrom body (hourAt body h) (8 + 24 * points)) _
       ∙ omega (arith, words-count body (hourAt body h) (8 + 24 * points), long, merged-length total i n ds (omega (arith, long, g .inside)), g .some)
 
-  hours-length : length (joined (mergedHour i n number body) 24) ≡ 24 * hourWords points fewer
-  hours-length = joined-length (mergedHour i n number body) (hourWords points fewer) 24 (λ h p. hour-length h)
+  hours-length : length (joined (mergedHour i n number body) dayHours) ≡ dayHours * hourWords points fewer
+  hours-length = joined-length (mergedHour i n number body) (hourWords points fewer) dayHours (λ h p. hour-length h)
 
   words-long : length words ≡ bodyWords points fewer
   words-long = length-append (mergedFront i n number body) _ ∙ omega (arith, front-length, hours-length)
@@ -83,18 +90,18 @@ module _ (most i n number : ℕ) (body : List ℕ) (g : Mergeable i n number bod
   from-below at m = record { each = λ j h. let p = rw (words-count body at m) at h in rw (words-at body at m j p) (word-below body bytes (at + j)) }
 
   demands-below : (h : ℕ) → Below 4294967296 (demandsOf body h)
-  demands-below h =
-      record { each = λ j p. let q = rw (demand-length body (demandsAt body h) count) at p in rw (demand-is body (demandsAt body h) count j q) (word-below body bytes (demandsAt body h + j)) }
+  demands-below h = from-below (demandsAt body h) count
 
-  few : count ≤ 64
-  few = omega (arith, few-coordinators (kindOf body) count (sound .kind) (sound .coordinators .1), sound .kind)
+  few : count ≤ mostCoordinators
+  few = let kind = sound .kind always .0 in omega (arith, few-coordinators (kindOf body) count kind (sound .coordinators always .1), kind)
 
   words-below : Below 4294967296 words
   words-below =
       below-append 4294967296 (mergedFront i n number body) _
       (below-append 4294967296 (wordsFrom body 0 6) _ (from-below 0 6)
-      (below-cons 4294967296 fewer _ (omega (arith, few)) (below-merged 4294967296 (λ _. number) i n (wordsFrom body 7 count) (omega (arith, g .small)) (from-below 7 count))))
-      (below-joined 4294967296 (mergedHour i n number body) 24
+      (below-cons 4294967296 fewer _ (omega (arith, few))
+      (below-merged 4294967296 (λ _. number) i n (wordsFrom body 7 count) (omega (arith, g .small)) (from-below 7 count))))
+      (below-joined 4294967296 (mergedHour i n number body) dayHours
       (λ h p. below-append 4294967296 (wordsFrom body (hourAt body h) (8 + 24 * points)) _ (from-below (hourAt body h) (8 + 24 * points))
       (below-merged 4294967296 total i n (demandsOf body h) (omega (arith, run-total i n (demandsOf body h), demands-total h p)) (demands-below h))))
 
@@ -126,30 +133,31 @@ module _ (most i n number : ℕ) (body : List ℕ) (g : Mergeable i n number bod
   hour-there : (h : ℕ) → hourAt other h ≡ hourStart points fewer h
   hour-there h = ap₂ (λ l k. hourStart l k h) (head-is 5 (omega arith)) count-is
 
-  hour-is : (h j : ℕ) → h < 24 → j < hourWords points fewer → wordAt other (hourAt other h + j) ≡ getD (mergedHour i n number body h) j 0
+  hour-is : (h j : ℕ) → h < dayHours → j < hourWords points fewer → wordAt other (hourAt other h + j) ≡ getD (mergedHour i n number body h) j 0
   hour-is h j p q =
       let width = hourWords points fewer in
-      let e : hourStart points fewer h + j ≡ length (mergedFront i n number body) + (h * width + j) = omega (arith, start-is points fewer h, front-length) in
+      let front = mergedFront i n number body in
+      let e : hourStart points fewer h + j ≡ length front + (h * width + j) = omega (arith, start-is points fewer h, front-length) in
       ap (λ at. wordAt other (at + j)) (hour-there h)
       ∙ word-is (hourStart points fewer h + j) (omega (arith, hour-room points fewer h p))
       ∙ ap (λ w. getD words w 0) e
-      ∙ getD-append-add (mergedFront i n number body) (joined (mergedHour i n number body) 24) (h * width + j) 0
-      ∙ joined-at (mergedHour i n number body) width 24 (λ k r. hour-length k) h j p q
+      ∙ getD-append-add (mergedFront i n number body) (joined (mergedHour i n number body) dayHours) (h * width + j) 0
+      ∙ joined-at (mergedHour i n number body) width dayHours (λ k r. hour-length k) h j p q
 
   -- ---- it is a body in which the neighbours are one
 
-  own-hour : (h j : ℕ) → h < 24 → j < 8 + 24 * points → wordAt other (hourAt other h + j) ≡ wordAt body (hourAt body h + j)
+  own-hour : (h j : ℕ) → h < dayHours → j < 8 + 24 * points → wordAt other (hourAt other h + j) ≡ wordAt body (hourAt body h + j)
   own-hour h j p q =
       hour-is h j p (omega arith)
       ∙ List·getD-append (wordsFrom body (hourAt body h) (8 + 24 * points)) _ 0 j (omega (arith, words-count body (hourAt body h) (8 + 24 * points)))
       ∙ words-at body (hourAt body h) (8 + 24 * points) j q
 
-  own-demands : (h : ℕ) → h < 24 → demandsOf other h ≡ mergedAt total i n (demandsOf body h)
+  own-demands : (h : ℕ) → h < dayHours → demandsOf other h ≡ mergedAt total i n (demandsOf body h)
   own-demands h p =
       let ds = demandsOf body h in
-      let long = demand-length body (demandsAt body h) count in
+      let long = words-count body (demandsAt body h) count in
       let merged-long = merged-length total i n ds (omega (arith, long, g .inside)) in
-      let other-long = demand-length other (demandsAt other h) (coordinatorsOf other) in
+      let other-long = words-count other (demandsAt other h) (coordinatorsOf other) in
       let front = wordsFrom body (hourAt body h) (8 + 24 * points) in
       let front-long = words-count body (hourAt body h) (8 + 24 * points) in
       ext-getD 0 (demandsOf other h) (mergedAt total i n ds) (omega (arith, merged-long, long, other-long, count-is, g .inside, g .some))
@@ -157,7 +165,7 @@ module _ (most i n number : ℕ) (body : List ℕ) (g : Mergeable i n number bod
       let r : j < fewer = omega (arith, q, other-long, count-is) in
       let there : demandsAt other h + j ≡ hourAt other h + (8 + 24 * points + j) = omega (arith, head-is 5 (omega arith)) in
       let behind : 8 + 24 * points + j ≡ length front + j = omega (arith, front-long) in
-      demand-is other (demandsAt other h) (coordinatorsOf other) j (omega (arith, r, count-is))
+      words-at other (demandsAt other h) (coordinatorsOf other) j (omega (arith, r, count-is))
       ∙ ap (wordAt other) there
       ∙ hour-is h (8 + 24 * points + j) p (omega (arith, r))
       ∙ ap (λ w. getD (mergedHour i n number body h) w 0) behind

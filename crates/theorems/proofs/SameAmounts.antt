@@ -7,6 +7,9 @@ use mathlib.Core.Path.{_≡_, refl, sym, ap, ap₂, _∙_}
 use native.Mathlib.Nat.{add-zero}
 use native.Mathlib.Omega.{arith}
 use lib.ListN.{take, drop}
+use Rattle.limits.specs.Ranges.{dayHours}
+use Rattle.verdict.specs.declared.Verdict.the-variants.{Accepted}
+use Rattle.verdict.specs.Verdict.{numberOf}
 use Rattle.words.specs.Word.{wordAt, signedOf}
 use Rattle.words.proofs.Part.{word-part}
 use Rattle.hour.specs.Layout.{missing}
@@ -14,21 +17,25 @@ use Rattle.body.specs.Layout.{kindOf, flagOf, pointsOf, hourAt, intervalsAt, qu
 use Rattle.price.specs.Price.{withInterval, quantityOf, priceOf, averageOf, answerOf}
 use Rattle.price.specs.declared.Average.{Average}
 use Rattle.price.proofs.MissingPrices.{missing-changes-nothing}
+use Rattle.surcharge.specs.declared.Terms.{Terms}
+use Rattle.amounts.proofs.Prices.{anywhere}
 use Rattle.surcharge.specs.Surcharge.{peakHour, greaterPrice}
-use Rattle.amounts.specs.Amounts.{highest, upwardFrom, downwardFrom, upwardAt, tierAt, dayTier, dayUpward, hubPrice, priceFrom, priceAnswerAt, onPeakAmount, offPeakAmount, downwardAmount, amountAt, priceNeeded, priceMissing}
+use Rattle.amounts.specs.Amounts.{highest, upwardFrom, downwardFrom, upwardAt, tierAt, dayTier, dayUpward, hubPrice, priceFrom, priceAnswerAt}
+use Rattle.amounts.specs.Amounts.{onPeakAmount, offPeakAmount, downwardAmount, amountAt, priceNeeded, usableRule, priceRule}
 
 pub record SameAmounts (body other : List ℕ) : Type 0 where
   -- kind, EDAM flag, persistent days, hub prices, load points
   pub head : (j : ℕ) → j < 6 → wordAt other j ≡ wordAt body j
-  pub number : (h o : ℕ) → h < 24 → o < 8 → wordAt other (hourAt other h + o) ≡ wordAt body (hourAt body h + o)
-  pub price : (h m : ℕ) → h < 24 → m < 12 * pointsOf body → priceAt other h m ≡ priceAt body h m
-  pub quantity : (h m : ℕ) → h < 24 → m < 12 * pointsOf body → (missing (priceAt body h m) ≡ true) ⊎ (quantityAt other h m ≡ quantityAt body h m)
+  pub number : (h o : ℕ) → h < dayHours → o < 8 → wordAt other (hourAt other h + o) ≡ wordAt body (hourAt body h + o)
+  pub price : (h m : ℕ) → h < dayHours → m < 12 * pointsOf body → priceAt other h m ≡ priceAt body h m
+  pub quantity : (h m : ℕ) → h < dayHours → m < 12 * pointsOf body → (missing (priceAt body h m) ≡ true)
+      ⊎ (quantityAt other h m ≡ quantityAt body h m)
 
-highest-same : (peak : ℕ) (f g : ℕ → ℕ) (n : ℕ) → ((h : ℕ) → h < n → f h ≡ g h) → highest peak f n ≡ highest peak g n
+highest-same : (terms : Terms) (f g : ℕ → ℕ) (n : ℕ) → ((h : ℕ) → h < n → f h ≡ g h) → highest terms f n ≡ highest terms g n
 unfolding highest
-highest-same peak f g zero each = refl
-highest-same peak f g (suc n) each =
-    ap₂ (λ a b. max a (cond (peakHour peak n) b 0)) (highest-same peak f g n (λ h p. each h (omega arith))) (each n (omega arith))
+highest-same terms f g zero each = refl
+highest-same terms f g (suc n) each =
+    ap₂ (λ a b. max a (cond (peakHour terms n) b 0)) (highest-same terms f g n (λ h p. each h (omega arith))) (each n (omega arith))
 
 -- ---- an average over intervals that differ at most in quantities whose price is missing
 
@@ -39,7 +46,8 @@ one-interval average quantity quantity′ price (inl e) =
 one-interval average quantity quantity′ price (inr e) = rw e
 
 average-same : (others pairs : List ℕ) (n : ℕ) → ((m : ℕ) → m < n → priceOf others m ≡ priceOf pairs m)
-    → ((m : ℕ) → m < n → (missing (priceOf pairs m) ≡ true) ⊎ (quantityOf others m ≡ quantityOf pairs m)) → averageOf others n ≡ averageOf pairs n
+    → ((m : ℕ) → m < n → (missing (priceOf pairs m) ≡ true) ⊎ (quantityOf others m ≡ quantityOf pairs m)) → averageOf others n
+    ≡ averageOf pairs n
 unfolding averageOf
 average-same others pairs zero price quantity = refl
 average-same others pairs (suc n) price quantity =
@@ -64,7 +72,7 @@ module _ (body other : List ℕ) (same : SameAmounts body other) where
   unfolding hubPrice
   hub-same = ap₂ (λ a b. greaterPrice (signedOf a) (signedOf b)) (same .head 3 (omega arith)) (same .head 4 (omega arith))
 
-  module _ (h : ℕ) (below : h < 24) where
+  module _ (h : ℕ) (below : h < dayHours) where
     first : wordAt other (hourAt other h) ≡ wordAt body (hourAt body h)
     first = ap (wordAt other) (sym (add-zero (hourAt other h))) ∙ same .number h 0 below (omega arith) ∙ ap (wordAt body) (add-zero (hourAt body h))
 
@@ -90,32 +98,46 @@ module _ (body other : List ℕ) (same : SameAmounts body other) where
         (λ m p.
         ⊎-elim
         (λ e. inl (rw (pair-word body (intervalsAt body h) (24 * points) (2 * m + 1) (intervalsAt body h + 2 * m + 1) (omega arith) (omega arith)) e))
-        (λ e. inr (word-part other (intervalsAt other h) (24 * points) (2 * m) (omega arith) ∙ e ∙ sym (word-part body (intervalsAt body h) (24 * points) (2 * m) (omega arith))))
+        (λ e. inr (word-part other (intervalsAt other h) (24 * points) (2 * m) (omega arith) ∙ e
+        ∙ sym (word-part body (intervalsAt body h) (24 * points) (2 * m) (omega arith))))
         (same .quantity h m below p)))
 
-    pub downward-same : downwardAmount other h ≡ downwardAmount body h
-    unfolding downwardAmount downwardFrom
-    downward-same = rw (flag-same, same .number h 4 below (omega arith), same .number h 5 below (omega arith), same .number h 7 below (omega arith))
+  module _ (terms : Terms) where
+    day-tier-same : dayTier terms other ≡ dayTier terms body
+    day-tier-same = highest-same terms (tierAt other) (tierAt body) dayHours tier-same
 
-  day-tier-same : (peak : ℕ) → dayTier other peak ≡ dayTier body peak
-  day-tier-same peak = highest-same peak (tierAt other) (tierAt body) 24 tier-same
+    day-upward-same : dayUpward terms other ≡ dayUpward terms body
+    day-upward-same = highest-same terms (upwardAt other) (upwardAt body) dayHours upward-same
 
-  day-upward-same : (peak : ℕ) → dayUpward other peak ≡ dayUpward body peak
-  day-upward-same peak = highest-same peak (upwardAt other) (upwardAt body) 24 upward-same
+    module _ (h : ℕ) (below : h < dayHours) where
+      pub on-peak-same : onPeakAmount terms other h ≡ onPeakAmount terms body h
+      unfolding onPeakAmount
+      on-peak-same = rw (flag-same, day-upward-same, hub-same, day-tier-same, tier-same h below, price-same h below)
 
-  module _ (peak days h : ℕ) (below : h < 24) where
-    pub on-peak-same : onPeakAmount other peak days h ≡ onPeakAmount body peak days h
-    unfolding onPeakAmount
-    on-peak-same = rw (flag-same, day-upward-same peak, hub-same, day-tier-same peak, tier-same h below, price-same h below)
+      pub off-peak-same : offPeakAmount terms other h ≡ offPeakAmount terms body h
+      unfolding offPeakAmount
+      off-peak-same = rw (flag-same, upward-same h below, tier-same h below, price-same h below)
 
-    pub off-peak-same : offPeakAmount other peak h ≡ offPeakAmount body peak h
-    unfolding offPeakAmount
-    off-peak-same = rw (flag-same, upward-same h below, tier-same h below, price-same h below)
+      pub downward-same : downwardAmount terms other h ≡ downwardAmount terms body h
+      unfolding downwardAmount downwardFrom
+      downward-same = rw (flag-same, same .number h 4 below (omega arith), same .number h 5 below (omega arith), same .number h 7 below (omega arith))
 
-    pub amount-same : amountAt other peak days h ≡ amountAt body peak days h
-    unfolding amountAt
-    amount-same = rw (on-peak-same, off-peak-same, downward-same h below)
+      pub amount-same : amountAt terms other h ≡ amountAt terms body h
+      unfolding amountAt
+      amount-same = rw (on-peak-same, off-peak-same, downward-same)
 
-    pub missing-same : priceMissing other peak h ≡ priceMissing body peak h
-    unfolding priceMissing priceNeeded
-    missing-same = rw (flag-same, day-tier-same peak, tier-same h below, price-same h below)
+      needed-same : priceNeeded terms other h ≡ priceNeeded terms body h
+      unfolding priceNeeded
+      needed-same = rw (flag-same, day-tier-same, tier-same h below)
+
+      -- what the price refuses, but for where it stands
+      pub price-rule-same : (start : ℕ)
+          → priceRule terms start other h ≡ cond (priceNeeded terms body h) (usableRule (start + intervalsAt other h) (priceAnswerAt body h)) Accepted
+      unfolding priceRule
+      price-rule-same start = rw (needed-same, price-same h below)
+
+      pub priced-same : (start : ℕ) → numberOf (priceRule terms start other h) ≡ numberOf (priceRule terms start body h)
+      unfolding priceRule
+      priced-same start =
+          ap numberOf (price-rule-same start)
+          ∙ anywhere (priceNeeded terms body h) (start + intervalsAt other h) (start + intervalsAt body h) (priceAnswerAt body h)

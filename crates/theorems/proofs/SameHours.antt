@@ -4,14 +4,16 @@ use mathlib.Core.List.{List}
 use mathlib.Core.Logic.{inr}
 use mathlib.Core.Path.{_≡_, sym, ap, _∙_}
 use native.Mathlib.Omega.{arith}
+use Rattle.limits.specs.Ranges.{dayHours}
 use Rattle.words.specs.Word.{wordAt}
 use Rattle.body.specs.Layout.{pointsOf, hourAt, intervalsAt, quantityAt, priceAt}
 use Rattle.theorems.specs.Merge.{SameHours}
 use Rattle.theorems.proofs.SameAmounts.{SameAmounts}
 
 module _ (body other : List ℕ) (same : SameHours body other) where
-  module _ (h m : ℕ) (below : h < 24) (inside : m < 12 * pointsOf body) where
-    word-same : (j : ℕ) → j < 24 * pointsOf body → (k l : ℕ) → hourAt other h + (8 + j) ≡ k → hourAt body h + (8 + j) ≡ l → wordAt other k ≡ wordAt body l
+  module _ (h m : ℕ) (below : h < dayHours) (inside : m < 12 * pointsOf body) where
+    word-same : (j : ℕ) → j < 24 * pointsOf body → (k l : ℕ) → hourAt other h + (8 + j) ≡ k → hourAt body h + (8 + j) ≡ l → wordAt other k
+        ≡ wordAt body l
     word-same j p k l here there = ap (wordAt other) (sym here) ∙ same .hour h (8 + j) below (omega arith) ∙ ap (wordAt body) there
 
     pub quantity-same : quantityAt other h m ≡ quantityAt body h m

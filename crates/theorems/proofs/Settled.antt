@@ -1,4 +1,4 @@
--- What an accepted settlement says of each hour: it has 0 of 11 and 12, so there is somebody to charge.
+-- What an accepted settlement says of each hour: it has no refusal, so there is somebody to charge.
 use Prim.Native.Nat.{ℕ, _<_}
 use mathlib.Core.Bool.{not}
 use mathlib.Core.List.{List}
@@ -8,33 +8,35 @@ use native.Mathlib.Omega.{arith}
 use lib.Dec.{eqb, leb}
 use lib.IntN.{pos}
 use borrow.Author.Tests.{eqb-false, not-true}
+use Rattle.exact.specs.Total.{total}
+use Rattle.limits.specs.Ranges.{dayHours}
 use Rattle.verdict.specs.Verdict.{numberOf}
 use Rattle.verdict.proofs.First.{kept, or-second, scan-each}
-use Rattle.hour.specs.Layout.{runningDemand}
-use Rattle.body.specs.Layout.{kindOf, daysOf, coordinatorsOf, demandsAt}
-use Rattle.dayfile.specs.File.{areasOf, peakOf, startAt, bodyAt}
+use Rattle.body.specs.Layout.{kindOf, demandsOf}
+use Rattle.dayfile.specs.File.{areasOf}
 use Rattle.dayfile.specs.Check.{checkOf}
-use Rattle.amounts.specs.Amounts.{amountAt, priceMissing}
+use Rattle.surcharge.specs.declared.Terms.{Terms}
+use Rattle.amounts.specs.Amounts.{amountAt}
 use Rattle.shares.proofs.SomeDemand.{either, shareable-when}
-use Rattle.settlement.specs.Settlement.{numbersNeeded, chargeable, hourRule, hoursRule, areaRule, areasRule, acceptedRule, settleWith, settleOf, fileDays}
-use Rattle.theorems.proofs.Shown.{days-are}
+use Rattle.settlement.specs.Settlement.{numbersNeeded, chargeable, chargeRule, hourRefusal, hoursRefusal, areaRefusal, areasRefusal, acceptedRule}
+use Rattle.settlement.specs.Settlement.{settleWith, daysBy, settleBy}
+use Rattle.theorems.specs.Refused.{hourVerdict}
 
-pub hour-accepted : (file : List ℕ) (room : ℕ) → numberOf (settleOf file room) ≡ 0 → (k h : ℕ) → k < areasOf file → h < 24
-    → numberOf (hourRule (peakOf file) (daysOf (bodyAt file k)) (startAt file k) (bodyAt file k) h) ≡ 0
-unfolding settleWith acceptedRule areasRule areaRule hoursRule
-hour-accepted file room z k h area hour =
-    let days = fileDays file (areasOf file) in
-    let roomy = kept (leb (numbersNeeded file) room) _ (areasRule days file) (λ q. omega arith) (or-second (checkOf file) _ z) in
-    let all = scan-each (areaRule days file) (areasOf file) (roomy .1) k area in
-    rw (← days-are file (areasOf file) k area) (scan-each _ 24 all h hour)
+pub hour-accepted : (d : ℕ → List ℕ → ℕ) (file : List ℕ) (room : ℕ) → numberOf (settleBy d file room) ≡ 0 → (k h : ℕ)
+    → k < areasOf file → h < dayHours
+    → numberOf (hourVerdict d file k h) ≡ 0
+unfolding settleWith acceptedRule areasRefusal areaRefusal hoursRefusal
+hour-accepted d file room z k h area hour =
+    let days = daysBy d file in
+    let roomy = kept (leb (numbersNeeded file) room) _ (areasRefusal days file) (λ q. omega arith) (or-second (checkOf file) _ z) in
+    scan-each _ dayHours (scan-each (areaRefusal days file) (areasOf file) (roomy .1) k area) h hour
 
-pub charged : (peak days start : ℕ) (body : List ℕ) (h : ℕ) → numberOf (hourRule peak days start body h) ≡ 0
-    → (kindOf body ≡ 1 → ⊥) ⊎ ((amountAt body peak days h ≡ pos 0) ⊎ (0 < runningDemand body (demandsAt body h) (coordinatorsOf body)))
-unfolding hourRule chargeable
-charged peak days start body h z =
-    let priced = kept (not (priceMissing body peak h)) _ _ (λ q. omega arith) z in
-    let test = kept (chargeable body peak days h) _ _ (λ q. omega arith) (priced .1) .0 in
+pub charged : (terms : Terms) (start : ℕ) (body : List ℕ) (h : ℕ) → numberOf (hourRefusal terms start body h) ≡ 0
+    → (kindOf body ≡ 1 → ⊥) ⊎ ((amountAt terms body h ≡ pos 0) ⊎ (0 < total (demandsOf body h)))
+unfolding hourRefusal chargeRule chargeable
+charged terms start body h z =
+    let test = kept (chargeable terms body h) _ _ (λ q. omega arith) (or-second _ _ z) .0 in
     ⊎-elim
     (λ t. inl (eqb-false _ _ (not-true _ t)))
-    (λ t. inr (shareable-when (amountAt body peak days h) _ t))
+    (λ t. inr (shareable-when (amountAt terms body h) _ t))
     (either (not (eqb (kindOf body) 1)) _ test)

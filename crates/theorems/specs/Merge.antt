@@ -1,27 +1,24 @@
--- Neighbouring coordinators merged into one: "K, the numbers, the demands of all 24 hours; everything else the same".
+-- Neighbouring coordinators merged into one: K, the numbers and the demands of all 24 hours are others, everything else is the same.
 use Prim.Native.Nat.{ℕ, zero, suc, _+_, _*_, _-_, _≤_, _<_}
 use mathlib.Core.Bool.{cond}
 use mathlib.Core.List.{List, [], _∷_, _++_, map}
 use mathlib.Core.Path.{_≡_}
 use lib.Dec.{eqb}
 use Rattle.words.specs.Word.{wordAt}
-use Rattle.body.specs.Layout.{kindOf, pointsOf, coordinatorsOf, coordinatorAt, coordinatorBefore, hourAt, demandsAt}
-use Rattle.dayfile.specs.File.{dayOf, peakOf, areasOf, numberAt, bodyAt}
-use Rattle.parts.specs.Bytes.{wordsBytes, wordsFrom}
-use Rattle.parts.specs.FileOf.{Area, fileOf, partsOf}
-use Rattle.shares.specs.Shares.{total, mergedAt}
-use Rattle.statement.specs.Block.{demandList}
+use Rattle.limits.specs.Ranges.{dayHours, largestNumber}
+use Rattle.body.specs.Layout.{kindOf, pointsOf, coordinatorsOf, coordinatorAt, coordinatorBefore, hourAt, demandsOf}
+use Rattle.dayfile.specs.File.{editionOf, dayOf, peakOf, areasOf, numberAt, bodyAt}
+use Rattle.words.specs.Bytes.{wordsBytes, wordsFrom}
+use Rattle.dayfile.specs.Parts.{Area, fileOf, partsOf}
+use Rattle.exact.specs.Total.{total}
+use Rattle.shares.specs.Shares.{mergedAt}
 
 -- two bodies with the same head but for K, and the same hours but for the demands
 pub record SameHours (body other : List ℕ) : Type 0 where
   -- kind, EDAM flag, persistent days, hub prices, load points
   pub head : (j : ℕ) → j < 6 → wordAt other j ≡ wordAt body j
   -- the eight numbers and the intervals of an hour
-  pub hour : (h j : ℕ) → h < 24 → j < 8 + 24 * pointsOf body → wordAt other (hourAt other h + j) ≡ wordAt body (hourAt body h + j)
-
--- the demands of hour h, one for each coordinator
-abbrev pub demandsOf : List ℕ → ℕ → List ℕ
-demandsOf body h = demandList body (demandsAt body h) (coordinatorsOf body)
+  pub hour : (h j : ℕ) → h < dayHours → j < 8 + 24 * pointsOf body → wordAt other (hourAt other h + j) ≡ wordAt body (hourAt body h + j)
 
 -- the n coordinators from place i on, from 0, are one in the other body
 pub record Merged (i n : ℕ) (body other : List ℕ) : Type 0 where
@@ -29,11 +26,10 @@ pub record Merged (i n : ℕ) (body other : List ℕ) : Type 0 where
   pub inside : i + n ≤ coordinatorsOf body
   pub fewer : coordinatorsOf other + n ≡ coordinatorsOf body + 1
   pub same : SameHours body other
-  pub demands : (h : ℕ) → h < 24 → demandsOf other h ≡ mergedAt total i n (demandsOf body h)
+  pub demands : (h : ℕ) → h < dayHours → demandsOf other h ≡ mergedAt total i n (demandsOf body h)
 
--- two files with the same day, peak hours and areas, and the same bodies but that of the CISO area, in which the n coordinators from place i on are one
+-- two files with the same peak hours and areas, and the same bodies but that of the CISO area, in which the n coordinators from place i on are one
 pub record MergedFile (i n : ℕ) (file other : List ℕ) : Type 0 where
-  pub day : dayOf other ≡ dayOf file
   pub peak : peakOf other ≡ peakOf file
   pub areas : areasOf other ≡ areasOf file
   pub number : (k : ℕ) → k < areasOf file → numberAt other k ≡ numberAt file k
@@ -54,7 +50,7 @@ module _ (i n number : ℕ) (body : List ℕ) where
     pub inside : i + n ≤ coordinatorsOf body
     pub above : coordinatorBefore body i < number
     pub under : i + n < coordinatorsOf body → number < coordinatorAt body (i + n)
-    pub small : number ≤ 2147483647
+    pub small : number ≤ largestNumber
 
   -- the head with its smaller K, and the coordinator numbers
   abbrev pub mergedFront : List ℕ
@@ -65,7 +61,7 @@ module _ (i n number : ℕ) (body : List ℕ) where
   mergedHour h = wordsFrom body (hourAt body h) (8 + 24 * pointsOf body) ++ mergedAt total i n (demandsOf body h)
 
   unfoldable pub mergedBody : List ℕ
-  mergedBody = wordsBytes (mergedFront ++ joined mergedHour 24)
+  mergedBody = wordsBytes (mergedFront ++ joined mergedHour dayHours)
 
 abbrev pub mergedArea : (i n number : ℕ) → Area → Area
 mergedArea i n number area =
@@ -73,4 +69,4 @@ mergedArea i n number area =
 
 -- the file with the n coordinators of the CISO area from place i on merged into one
 unfoldable pub merge : (i n number : ℕ) → List ℕ → List ℕ
-merge i n number file = fileOf (dayOf file) (peakOf file) (map (mergedArea i n number) (partsOf file))
+merge i n number file = fileOf (editionOf file) (dayOf file) (peakOf file) (map (mergedArea i n number) (partsOf file))

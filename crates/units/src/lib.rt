@@ -1,4 +1,4 @@
-// The units of document 01, each a struct of one number, so that megawatts, dollars a megawatt-hour and dollars stay apart.
+// The units of docs/RULES.md, section 1, each a struct of one number, so that megawatts, dollars a megawatt-hour and dollars stay apart.
 // A quantity times a price is an amount over that product's own denominator; nothing here adds one unit to another.
 ghost use mathlib.Core.Path.{_≡_};
 ghost use Prim.Native.Nat.{_+_, _*_, _<_, _^_};

@@ -1,11 +1,13 @@
 // Runs the library's public calls on a stream of cases from standard input, and prints a line for each.
 // A case is four words (the call, x, y, the number of payload bytes) and its payload; the stream ends where no whole case follows.
 use libc::STDIN_FILENO;
+use sharing::ROWS_BY_VALUE;
 use sharing::Row;
 use verdict::Verdict;
 ghost use mathlib.Core.Path.{_≡_};
 ghost use Prim.Native.Nat.{_+_, _*_, _≤_, _<_, _^_};
 ghost use lib.ListN.{length};
+ghost use Rattle.sharing.specs.Rows.{rowsByValue};
 
 // Room for a payload: more than the longest file that is not refused for its length.
 fn payload_room() -> [u8; 66000]
@@ -14,7 +16,7 @@ fn payload_room() -> [u8; 66000]
     [0; 66000]
 }
 
-// Room for a statement, in numbers: more than a file of eight areas needs.
+// Room for a statement, in numbers: more than the longest needs.
 fn statement_room() -> [i64; 8192]
     ensures { λ r. ⌜ 8192 ≡ length r ⌝ }
 {
@@ -99,7 +101,7 @@ fn amount_of(low: u32, high: u32) -> i64 {
 }
 
 fn row(payload: &[u8], i: usize) -> Row
-    requires { ⌜ (i < 70) × (8 * i + 16 ≤ length (now payload)) ⌝ }
+    requires { ⌜ (i < rowsByValue) × (8 * i + 16 ≤ length (now payload)) ⌝ }
 {
     let coordinator = words::word(payload, 2 * i + 2);
     let demand = words::word(payload, 2 * i + 3);
@@ -109,14 +111,14 @@ fn row(payload: &[u8], i: usize) -> Row
     }
 }
 
-fn rows_of(payload: &[u8], n: usize) -> [Row; 70]
-    requires { ⌜ (n ≤ 70) × (8 * n + 8 ≤ length (now payload)) ⌝ }
+fn rows_of(payload: &[u8], n: usize) -> [Row; ROWS_BY_VALUE]
+    requires { ⌜ (n ≤ rowsByValue) × (8 * n + 8 ≤ length (now payload)) ⌝ }
 {
     let none = Row {
         coordinator: 0,
         demand: 0,
     };
-    let mut rows = [none; 70];
+    let mut rows = [none; ROWS_BY_VALUE];
     let mut i: usize = 0;
     while i < n {
         rows[i] = row(payload, i);
@@ -125,8 +127,8 @@ fn rows_of(payload: &[u8], n: usize) -> [Row; 70]
     rows
 }
 
-fn share_into(amount: i64, rows: [Row; 70], n: usize, charges: &mut [i64])
-    requires { ⌜ (n ≤ 70) × (length (now charges) ≤ 128) ⌝ }
+fn share_into(amount: i64, rows: [Row; ROWS_BY_VALUE], n: usize, charges: &mut [i64])
+    requires { ⌜ length (now charges) ≤ 128 ⌝ }
 {
     fill_lent(charges);
     show_verdict(sharing::share_array(amount, rows, n, charges));
@@ -138,7 +140,7 @@ fn share(payload: &[u8], x: usize) -> bool {
         return bad_case();
     }
     let n = payload.len() / 8 - 1;
-    if 70 < n {
+    if ROWS_BY_VALUE < n {
         return bad_case();
     }
     if 128 < x {
@@ -231,15 +233,15 @@ fn case() -> bool {
     if got < 16 {
         return false;
     }
-    let length = words::word(&head, 3) as usize;
-    if 66000 < length {
+    let payload = words::word(&head, 3) as usize;
+    if 66000 < payload {
         return bad_case();
     }
     let mut room = payload_room();
     filled(
         words::word(&head, 0),
         words::word(&head, 1),
-        &mut room[..length],
+        &mut room[..payload],
     )
 }
 

@@ -1,7 +1,7 @@
 -- The laws of "the first that breaks its rule". They go by the number of a verdict alone, so a new case touches none of them.
 use Prim.Native.Nat.{ℕ, zero, suc, _+_, _-_, _<_, _≤_}
-use mathlib.Core.Path.{_≡_, refl, sym, ap, _∙_, subst}
-use mathlib.Core.Bool.{Bool, true, false, cond, _&&_}
+use mathlib.Core.Path.{_≡_, refl, sym, ap, ap₂, _∙_, subst}
+use mathlib.Core.Bool.{Bool, true, false, _&&_}
 use native.Mathlib.Omega.{arith}
 use native.Mathlib.Numerals.{add-one}
 use native.Mathlib.Nat.{add-zero, zero-add}
@@ -63,35 +63,43 @@ scan-all part k (suc n) z (suc i) h =
 pub scan-each : (part : ℕ → Verdict) (n : ℕ) → numberOf (scan part 0 n) ≡ 0 → (i : ℕ) → i < n → numberOf (part i) ≡ 0
 scan-each part n z i h = subst (λ (j : ℕ). numberOf (part j) ≡ 0) (zero-add i) (scan-all part 0 n z i h)
 
--- ---- a bound that every place in sight keeps, the answer's place keeps
+-- scans whose parts are the same
+pub scan-same : (part part′ : ℕ → Verdict) (k n : ℕ) → ((i : ℕ) → i < k + n → part i ≡ part′ i) → scan part k n ≡ scan part′ k n
+unfolding scan
+scan-same part part′ k zero same = refl
+scan-same part part′ k (suc n) same = ap₂ _orElse_ (same k (omega arith)) (scan-same part part′ (suc k) n (λ i p. same i (omega arith)))
 
-pub record PlaceWithin (most : ℕ) (verdict : Verdict) : Type 0 where
-  pub bound : placeOf verdict ≤ most
+-- ---- what holds of an acceptance and of every refusal in sight holds of the answer
 
-module _ (most : ℕ) where
-  pub accepted-within : PlaceWithin most Accepted
-  accepted-within = record { bound = omega arith }
+pub record Holds (P : Verdict → Type 0) (verdict : Verdict) : Type 0 where
+  pub holds : P verdict
 
-  pub rule-within : (test : Bool) (refusal rest : Verdict) → placeOf refusal ≤ most → PlaceWithin most rest
-      → PlaceWithin most (rule test else refusal then rest)
-  rule-within true refusal rest a b = b
-  rule-within false refusal rest a b = record { bound = a }
+module _ (P : Verdict → Type 0) where
+  pub rule-holds : (test : Bool) (refusal rest : Verdict) → (test ≡ false → P refusal) → (test ≡ true → Holds P rest)
+      → Holds P (rule test else refusal then rest)
+  rule-holds true refusal rest a b = b refl
+  rule-holds false refusal rest a b = record { holds = a refl }
 
-  pub or-within : (first second : Verdict) → PlaceWithin most first → (numberOf first ≡ 0 → PlaceWithin most second)
-      → PlaceWithin most (first orElse second)
-  or-within first second a b = by (eqb (numberOf first) 0) refl
+  pub or-holds : (first second : Verdict) → Holds P first → (numberOf first ≡ 0 → Holds P second) → Holds P (first orElse second)
+  or-holds first second a b = by (eqb (numberOf first) 0) refl
     where
-      by : (t : Bool) → eqb (numberOf first) 0 ≡ t → PlaceWithin most (first orElse second)
+      by : (t : Bool) → eqb (numberOf first) 0 ≡ t → Holds P (first orElse second)
       by true e = rw (or-next first second (eqb-true _ _ e)) (b (eqb-true _ _ e))
       by false e = rw (or-stop first second (eqb-false _ _ e)) a
 
-  scan-within-from : (part : ℕ → Verdict) (k n : ℕ) → ((i : ℕ) → i < k + n → PlaceWithin most (part i)) → PlaceWithin most (scan part k n)
-  unfolding scan
-  scan-within-from part k zero each = accepted-within
-  scan-within-from part k (suc n) each = or-within _ _ (each k (omega arith)) (λ _. scan-within-from part (suc k) n (λ i p. each i (omega arith)))
+  module _ (accepted : Holds P Accepted) where
+    scan-holds-from : (part : ℕ → Verdict) (k n : ℕ) → ((i : ℕ) → i < k + n → Holds P (part i)) → Holds P (scan part k n)
+    unfolding scan
+    scan-holds-from part k zero each = accepted
+    scan-holds-from part k (suc n) each = or-holds _ _ (each k (omega arith)) (λ _. scan-holds-from part (suc k) n (λ i p. each i (omega arith)))
 
-  pub scan-within : (part : ℕ → Verdict) (n : ℕ) → ((i : ℕ) → i < n → PlaceWithin most (part i)) → PlaceWithin most (scan part 0 n)
-  scan-within part n each = scan-within-from part 0 n (λ i p. each i (omega arith))
+    pub scan-holds : (part : ℕ → Verdict) (n : ℕ) → ((i : ℕ) → i < n → Holds P (part i)) → Holds P (scan part 0 n)
+    scan-holds part n each = scan-holds-from part 0 n (λ i p. each i (omega arith))
+
+-- so a scan whose parts all accept accepts
+pub all-accept : (part : ℕ → Verdict) (n : ℕ) → ((i : ℕ) → i < n → numberOf (part i) ≡ 0) → numberOf (scan part 0 n) ≡ 0
+all-accept part n each =
+    scan-holds (λ (v : Verdict). numberOf v ≡ 0) (record { holds = refl }) part n (λ i p. record { holds = each i p }) .holds
 
 -- ---- a loop over k from 0 to n, in a form that `search` can use: what each law asks stands in the fields of the place's record.
 -- v is the turn's answer, r its number, and `whole` the answer of the whole loop.

@@ -1,4 +1,4 @@
--- "The first that breaks its rule": rules in order, parts in order, and a part for each index in order.
+-- "the first that breaks its rule": rules in order, parts in order, and a part for each index in order.
 use Prim.Native.Nat.{ℕ, zero, suc}
 use mathlib.Core.Bool.{Bool, cond}
 use lib.Dec.{eqb}

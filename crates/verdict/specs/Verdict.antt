@@ -1,7 +1,9 @@
--- The refusal table of document 01: the number and the place of each case.
+-- The refusal table (docs/RULES.md, sections 10 and 11): the number and the place of each case.
 use Prim.Native.Nat.{ℕ}
 use Rattle.verdict.specs.declared.Verdict.{Verdict}
-use Rattle.verdict.specs.declared.Verdict.the-variants.{Accepted, BadLength, BadEdition, BadAreaCount, BadDate, BadPeakHours, BadContents, BadBodyHead, BadCoordinator, OutOfRange, RunningDemandTooLarge, PriceWithoutQuantity, AmountWithoutDemand, RoomTooShort, AmountBeyondRange}
+use Rattle.verdict.specs.declared.Verdict.the-variants.{Accepted, BadLength, BadEdition, BadAreaCount, BadDate, BadPeakHours, BadContents}
+use Rattle.verdict.specs.declared.Verdict.the-variants.{BadBodyHead, BadCoordinator, OutOfRange, RunningDemandTooLarge, PriceWithoutQuantity}
+use Rattle.verdict.specs.declared.Verdict.the-variants.{AmountWithoutDemand, RoomTooShort, AmountBeyondRange}
 
 abbrev pub numberOf : Verdict → ℕ
 numberOf Accepted = 0

@@ -1,8 +1,8 @@
-// The answer of every call: accepted, or the rule of document 01 that is broken, with its place.
+// The answer of every call: accepted, or the rule of docs/RULES.md that is broken, with its place.
 ghost use mathlib.Core.Path.{_≡_};
 ghost use Rattle.verdict.specs.Verdict.{numberOf, placeOf};
 
-// A case for each refusal of document 01, in the order of its table. Each case's number and place are those of specs/Verdict.antt.
+// A case for each refusal of docs/RULES.md, in the order of their numbers. Each case's number and place are those of specs/Verdict.antt.
 pub enum Verdict {
     Accepted,
     BadLength,
@@ -21,7 +21,7 @@ pub enum Verdict {
     AmountBeyondRange,
 }
 
-// The number of document 01's table; 0 where nothing is refused.
+// The number of the refusal (docs/RULES.md, section 10); 0 where nothing is refused.
 pub fn number(verdict: Verdict) -> u32
     ensures { λ r. ⌜ r ≡ numberOf verdict ⌝ }
 {
@@ -44,7 +44,7 @@ pub fn number(verdict: Verdict) -> u32
     }
 }
 
-// The place of document 01's table.
+// The place of the refusal (docs/RULES.md, section 10).
 pub fn place(verdict: Verdict) -> usize
     ensures { λ r. ⌜ r ≡ placeOf verdict ⌝ }
 {

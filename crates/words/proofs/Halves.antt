@@ -25,7 +25,8 @@ high w h l =
     let t : ltb w 4294967296 ≡ true = lt-ltb w 4294967296 l in
     simp (le-ltb w 2147483648 h, t) (ap negsuc (omega arith))
 
-by-half : (P : ℤ → Type 0) (w : ℕ) → w < 4294967296 → (w < 2147483648 → P (pos w)) → (2147483648 ≤ w → P (negsuc (4294967295 - w))) → P (signedOf w)
+by-half : (P : ℤ → Type 0) (w : ℕ) → w < 4294967296 → (w < 2147483648 → P (pos w)) → (2147483648 ≤ w → P (negsuc (4294967295 - w)))
+    → P (signedOf w)
 by-half P w l f g =
     dite (decLt w 2147483648) (λ h. rw (low w h) (f h)) (λ h. rw (high w (omega (arith, h)) l) (g (omega (arith, h))))
 

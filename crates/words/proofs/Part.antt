@@ -14,4 +14,10 @@ module _ (bytes : List ℕ) (start count : ℕ) where
   pub word-part : (j : ℕ) → j < count → wordAt (take (4 * count) (drop (4 * start) bytes)) j ≡ wordAt bytes (start + j)
   unfolding wordAt
   word-part j h =
-      simp (byte (4 * j) (4 * (start + j)) (omega arith) (omega arith), byte (4 * j + 1) (4 * (start + j) + 1) (omega arith) (omega arith), byte (4 * j + 2) (4 * (start + j) + 2) (omega arith) (omega arith), byte (4 * j + 3) (4 * (start + j) + 3) (omega arith) (omega arith))
+      simp (
+        byte (4 * j) (4 * (start + j)) (omega arith) (omega arith),
+        byte (4 * j + 1) (4 * (start + j) + 1) (omega arith) (omega arith),
+        byte (4 * j + 2)
+            (4 * (start + j) + 2) (omega arith) (omega arith),
+        byte (4 * j + 3) (4 * (start + j) + 3) (omega arith) (omega arith),
+      )

@@ -10,15 +10,9 @@ use Rattle.amounts.proofs.down_amount.Tie as tie
 returns : tie.Need-returns
 returns c =
     c .downward .ensures
-    ∙ ap₂ downwardOf (c .before .downward-quantity .ensures) (got w32 (c .before .before .signed .ok) (c .before .before .signed .ensures ∙ ap signedOf (c .before .before .before .word .ensures)))
+    ∙ ap₂ (downwardOf (c .before .before .before .before .before .args .terms)) (c .before .downward-quantity .ensures)
+    (got w32 (c .before .before .signed .ok) (c .before .before .signed .ensures ∙ ap signedOf (c .before .before .before .word .ensures)))
 
 pub down-amount-spec : {M : Type 1} → statement M
 down-amount-spec =
-    tie.close
-    (tie.spec
-    (λ c. search needs)
-    (λ c κs. search needs)
-    (λ c κs. search needs)
-    (λ c κs. search needs)
-    (λ c κs. search needs)
-    returns)
+    tie.close (tie.spec (λ c. search needs) (λ c κs. search needs) (λ c κs. search needs) (λ c κs. search needs) (λ c κs. search needs) returns)

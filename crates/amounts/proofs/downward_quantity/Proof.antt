@@ -13,11 +13,4 @@ returns c = omega arith
 
 pub downward-quantity-spec : {M : Type 1} → statement M
 downward-quantity-spec =
-    tie.close
-    (tie.spec
-    (λ c. search needs)
-    (λ c κs. search needs)
-    (λ c. search needs)
-    (λ c κs. search needs)
-    plus-requires
-    returns)
+    tie.close (tie.spec (λ c. search needs) (λ c κs. search needs) (λ c. search needs) (λ c κs. search needs) plus-requires returns)

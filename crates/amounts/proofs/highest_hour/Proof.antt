@@ -1,106 +1,99 @@
 use borrow.Author.Needs.{needs}
 use denote.Ref.{now}
-use Prim.Native.Nat.{_+_, _*_, _-_, _≤_, max}
+use Prim.Native.Nat.{_-_, _≤_, max}
 use mathlib.Core.Bool.{cond}
 use mathlib.Core.Path.{_≡_, refl, sym, ap, ap₂, _∙_}
 use native.Mathlib.Omega.{arith}
-use lib.ListN.{length}
-use Rattle.hour.specs.Layout.{hourWords}
-use Rattle.body.specs.Layout.{hourAt, pointsOf, coordinatorsOf}
-use Rattle.body.proofs.HourPlaces.{first-hour, hour-next}
-use Rattle.body.proofs.Facts.{hour-inside}
+use Rattle.limits.specs.Ranges.{dayHours}
+use Rattle.body.specs.Layout.{hourStart, hourAt, pointsOf, coordinatorsOf}
+use Rattle.body.proofs.Kept.{sound-size, hour-inside}
 use Rattle.surcharge.specs.Surcharge.{peakHour}
-use Rattle.amounts.specs.Amounts.{highest, upwardAt, tierAt, hourOf}
+use Rattle.amounts.specs.Amounts.{highest, upwardAt, tierAt, hourFacts}
 use Rattle.amounts.proofs.Hours.{highest-more, hour-upward, hour-tier, hour-ranged}
 use Rattle.amounts.proofs.highest_hour.Statement.{statement}
 use Rattle.amounts.proofs.highest_hour.Tie as tie
 
 abbrev Inv-loop : tie.InvT-loop
-Inv-loop peak body load count most₀ tier₀ at₀ h₀ most tier at h =
-    (h ≤ 24) × (at ≡ hourAt body h) × (most ≡ highest peak (upwardAt body) h) × (tier ≡ highest peak (tierAt body) h)
+Inv-loop terms body load count most₀ tier₀ at₀ h₀ most tier at h =
+    (h ≤ dayHours) × (at ≡ hourStart load count h) × (load ≡ pointsOf body) × (count ≡ coordinatorsOf body)
+    × (most ≡ highest terms (upwardAt body) h) × (tier ≡ highest terms (tierAt body) h)
 
 abbrev μ-loop : tie.MeasureT-loop
-μ-loop peak body load count most₀ tier₀ at₀ h₀ most tier at h = 24 - h
+μ-loop terms body load count most₀ tier₀ at₀ h₀ most tier at h = dayHours - h
 
--- an hour lies within the body, so that the next one's start fits
-room : (c : tie.In-loop Inv-loop μ-loop) → let b = now (c .before .before .before .before .before .args .body) in 4 * (c .before .loop .at + hourWords (pointsOf b) (coordinatorsOf b)) ≤ length b
-room c =
-    let s = c .before .before .before .before .before in
-    rw (c .before .loop .inv .1) (hour-inside 32 (now (s .args .body)) (s .pre) (c .before .loop .h) (omega arith))
+-- where the loop's hour starts
+here : (c : tie.At-loop Inv-loop μ-loop) → c .loop .at ≡ hourAt (now (c .before .before .before .before .before .args .body)) (c .loop .h)
+here c = c .loop .inv .1 ∙ rw (c .loop .inv .2, c .loop .inv .3)
 
-facts-is : (c : tie.After-hour-facts Inv-loop μ-loop) → let s = c .before .before .before .before .before .before .before .args in let l = c .before .before .before .loop in c .hour-facts .result ≡ hourOf (peakHour (s .peak) (l .h)) (now (s .body)) (hourAt (now (s .body)) (l .h))
-facts-is c = c .hour-facts .ensures ∙ rw (c .before .peak-hour .ensures, c .before .before .before .loop .inv .1)
+facts-is : (c : tie.After-hour-facts Inv-loop μ-loop) →
+    let s = c .before .before .before .before .before .before .before .before .args in
+    let h = c .before .before .before .loop .h in
+    c .hour-facts .result ≡ hourFacts (peakHour (s .terms) h) (now (s .body)) (hourAt (now (s .body)) h)
+facts-is c = c .hour-facts .ensures ∙ rw (c .before .peak-hour .ensures, here (c .before .before .before))
 
-upward-is : (c : tie.After-hour-facts Inv-loop μ-loop) → let s = c .before .before .before .before .before .before .before .args in let l = c .before .before .before .loop in c .hour-facts .result .upward .0 ≡ cond (peakHour (s .peak) (l .h)) (upwardAt (now (s .body)) (l .h)) 0
-upward-is c = ap (λ r. r .upward .0) (facts-is c) ∙ hour-upward (peakHour (c .before .before .before .before .before .before .before .args .peak) (c .before .before .before .loop .h)) (now (c .before .before .before .before .before .before .before .args .body)) _
+upward-is : (c : tie.After-hour-facts Inv-loop μ-loop) →
+    let s = c .before .before .before .before .before .before .before .before .args in
+    let h = c .before .before .before .loop .h in
+    c .hour-facts .result .upward .0 ≡ cond (peakHour (s .terms) h) (upwardAt (now (s .body)) h) 0
+upward-is c =
+    let s = c .before .before .before .before .before .before .before .before .args in
+    ap (λ r. r .upward .0) (facts-is c) ∙ hour-upward (peakHour (s .terms) (c .before .before .before .loop .h)) (now (s .body)) _
 
-tier-is : (c : tie.After-hour-facts Inv-loop μ-loop) → let s = c .before .before .before .before .before .before .before .args in let l = c .before .before .before .loop in c .hour-facts .result .tier ≡ cond (peakHour (s .peak) (l .h)) (tierAt (now (s .body)) (l .h)) 0
-tier-is c = ap (λ r. r .tier) (facts-is c) ∙ hour-tier (peakHour (c .before .before .before .before .before .before .before .args .peak) (c .before .before .before .loop .h)) (now (c .before .before .before .before .before .before .before .args .body)) (c .before .before .before .loop .h)
+tier-is : (c : tie.After-hour-facts Inv-loop μ-loop) →
+    let s = c .before .before .before .before .before .before .before .before .args in
+    let h = c .before .before .before .loop .h in
+    c .hour-facts .result .tier ≡ cond (peakHour (s .terms) h) (tierAt (now (s .body)) h) 0
+tier-is c =
+    let s = c .before .before .before .before .before .before .before .before .args in
+    let h = c .before .before .before .loop .h in
+    ap (λ r. r .tier) (facts-is c) ∙ hour-tier (peakHour (s .terms) h) (now (s .body)) h
 
 word-requires : tie.Need-word-requires Inv-loop μ-loop
-word-requires c κs = let z = c .before .pre .size in omega arith
+word-requires c κs = let z = sound-size _ _ (c .before .pre) in omega arith
 
 word-requires-2 : tie.Need-word-requires-2 Inv-loop μ-loop
-word-requires-2 c κs = let z = c .before .before .pre .size in omega arith
+word-requires-2 c κs = let z = sound-size _ _ (c .before .before .pre) in omega arith
 
 loop-holds : tie.Need-loop-holds Inv-loop μ-loop
 unfolding highest
-loop-holds c =
-    let b = now (c .before .before .before .args .body) in
-    (omega arith, omega (arith, c .word2 .ensures, first-hour (pointsOf b) (coordinatorsOf b)), refl, refl)
+loop-holds c = (omega arith, c .first-hour .ensures, c .before .before .word .ensures, c .before .word2 .ensures, refl, refl)
 
 hour-facts-requires : tie.Need-hour-facts-requires Inv-loop μ-loop
-hour-facts-requires c κs = let s = c .before .before .before .before .before .before in rw (c .before .before .loop .inv .1) (hour-ranged (now (s .args .body)) (s .pre) (c .before .before .loop .h) (omega arith))
+hour-facts-requires c κs =
+    let s = c .before .before .before .before .before .before .before in
+    rw (here (c .before .before)) (hour-ranged (now (s .args .body)) (s .pre) (c .before .before .loop .h) (omega arith))
 
-add-at-2 : tie.Need-add-at-2 Inv-loop μ-loop
-add-at-2 c = let r = room (c .before .before .before .before .before) in omega arith
-
-add-at-3 : tie.Need-add-at-3 Inv-loop μ-loop
-add-at-3 c = let r = room (c .before .before .before .before .before) in omega arith
-
-add-at-4 : tie.Need-add-at-4 Inv-loop μ-loop
-add-at-4 c = let r = room (c .before .before .before .before .before) in omega (arith, c .before .before .before .before .before .before .before .before .word .ensures, c .before .before .before .before .before .before .before .word2 .ensures)
+next-hour-requires : tie.Need-next-hour-requires Inv-loop μ-loop
+next-hour-requires c κs =
+    let l = c .before .before .before .before .before .before in
+    let s = l .before .before .before .before .before in
+    (l .loop .inv .1, omega (arith, here l, l .loop .inv .2, l .loop .inv .3, hour-inside _ _ (s .pre) (l .loop .h) (omega arith)))
 
 loop-again : tie.Need-loop-again Inv-loop μ-loop
 loop-again c =
-    let s = c .before .before .before .before .before .before .before .before .before .before .args in
-    let b = now (s .body) in
-    let l = c .before .before .before .before .before .before .loop in (
+    let l = c .before .before .before .before .before .before .before in
+    let s = l .before .before .before .before .before .args in
+    let b = now (s .body) in (
       omega arith,
-      omega (arith, hour-next (pointsOf b) (coordinatorsOf b) (l .h), c .before .before .before .before .before .before .before .before .word .ensures, c .before .before .before .before .before .before .before .word2 .ensures),
-      c .before .larger .ensures ∙ ap₂ max (l .inv .2) (upward-is (c .before .before .before)) ∙ sym (highest-more (s .peak) (upwardAt b) (l .h)),
-      c .larger2 .ensures ∙ ap₂ max (l .inv .3) (tier-is (c .before .before .before)) ∙ sym (highest-more (s .peak) (tierAt b) (l .h)),
+      c .next-hour .ensures,
+      l .loop .inv .2,
+      l .loop .inv .3,
+      c .before .before .larger .ensures ∙ ap₂ max (l .loop .inv .4) (upward-is (c .before .before .before .before))
+          ∙ sym (highest-more (s .terms) (upwardAt b) (l .loop .h)),
+      c .before .larger2 .ensures ∙ ap₂ max (l .loop .inv .5) (tier-is (c .before .before .before .before))
+          ∙ sym (highest-more (s .terms) (tierAt b) (l .loop .h)),
     )
 
 returns : tie.Need-returns Inv-loop μ-loop
 returns c =
-    let s = c .before .before .before .before .before .args in
+    let s = c .before .before .before .before .before .before .args in
     let b = now (s .body) in
     let l = c .before .loop in
-    let e : l .h ≡ 24 = omega arith in
-    (l .inv .2 ∙ ap (highest (s .peak) (upwardAt b)) e, l .inv .3 ∙ ap (highest (s .peak) (tierAt b)) e)
+    let e : l .h ≡ dayHours = omega arith in
+    (l .inv .4 ∙ ap (highest (s .terms) (upwardAt b)) e, l .inv .5 ∙ ap (highest (s .terms) (tierAt b)) e)
 
 pub highest-hour-spec : {M : Type 1} → statement M
 highest-hour-spec =
-    tie.close
-    (tie.spec
-    Inv-loop
-    μ-loop
-    word-requires
-    (λ c. search needs)
-    word-requires-2
-    (λ c. search needs)
-    (λ c. search needs)
-    loop-holds
-    (λ c κs. search needs)
-    hour-facts-requires
-    (λ c κs. search needs)
-    (λ c κs. search needs)
-    (λ c. search needs)
-    add-at-2
-    add-at-3
-    add-at-4
-    (λ c. search needs)
-    (λ c. search needs)
-    loop-again
-    returns)
+    tie.close (tie.spec Inv-loop μ-loop word-requires (λ c. search needs) word-requires-2 (λ c. search needs) (λ c κs. search needs) loop-holds
+    (λ c κs. search needs) hour-facts-requires (λ c κs. search needs) (λ c κs. search needs) next-hour-requires (λ c. search needs)
+    (λ c. search needs) loop-again returns)

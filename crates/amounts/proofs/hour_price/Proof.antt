@@ -26,14 +26,5 @@ returns c = let s = c .before .before .before in c .average-price .ensures ∙ r
 
 pub hour-price-spec : {M : Type 1} → statement M
 hour-price-spec =
-    tie.close
-    (tie.spec
-    (λ c. search needs)
-    (λ c. search needs)
-    (λ c. search needs)
-    (λ c. search needs)
-    (λ c. search needs)
-    (λ c. search needs)
-    (λ c. search needs)
-    average-price-requires
-    returns)
+    tie.close (tie.spec (λ c. search needs) (λ c. search needs) (λ c. search needs) (λ c. search needs) (λ c. search needs) (λ c. search needs)
+    (λ c. search needs) average-price-requires returns)

@@ -5,22 +5,6 @@ use Rattle.dayfile.proofs.entry.Tie as tie
 
 pub entry-spec : {M : Type 1} → statement M
 entry-spec =
-    tie.close
-    (tie.spec
-    (λ c. search tests)
-    (λ c. search tests)
-    (λ c. search needs)
-    (λ c. search tests)
-    (λ c. search needs)
-    (λ c. search tests)
-    (λ c. search needs)
-    (λ c. search tests)
-    (λ c. search needs)
-    (λ c. search needs)
-    (λ c. search tests)
-    (λ c. search needs)
-    (λ c. search tests)
-    (λ c. search needs)
-    (λ c. search needs)
-    (λ c. search tests)
-    (λ c. search tests))
+    tie.close (tie.spec (λ c. search tests) (λ c. search tests) (λ c. search needs) (λ c. search tests) (λ c. search needs) (λ c. search tests)
+    (λ c. search needs) (λ c. search tests) (λ c. search needs) (λ c. search needs) (λ c. search tests) (λ c. search needs) (λ c. search tests)
+    (λ c. search needs) (λ c. search needs) (λ c. search tests) (λ c. search tests))

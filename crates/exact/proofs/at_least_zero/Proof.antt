@@ -1,4 +1,4 @@
-use mathlib.Core.Path.{_≡_, sym, _∙_}
+use mathlib.Core.Path.{sym, _∙_}
 use mir.Syntax.{w64}
 use mir.ValLaws.{toZ-ofZ}
 use Rattle.exact.proofs.Floor.{negative, not-negative}
@@ -9,7 +9,10 @@ returns : tie.Need-returns
 returns c = let s = c .before in let t = simp (toZ-ofZ w64 _ (s .fits .z)) at (c .if1 .taken) in sym (negative (s .args .z) t .0)
 
 returns-2 : tie.Need-returns-2
-returns-2 c = let s = c .before in let t = simp (toZ-ofZ w64 _ (s .fits .z)) at (c .if1 .left) in toZ-ofZ w64 _ (s .fits .z) ∙ sym (not-negative (s .args .z) t .0)
+returns-2 c =
+    let s = c .before in
+    let t = simp (toZ-ofZ w64 _ (s .fits .z)) at (c .if1 .left) in
+    toZ-ofZ w64 _ (s .fits .z) ∙ sym (not-negative (s .args .z) t .0)
 
 pub at-least-zero-spec : {M : Type 1} → statement M
 at-least-zero-spec = tie.close (tie.spec returns returns-2)

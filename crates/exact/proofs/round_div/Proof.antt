@@ -1,14 +1,13 @@
 -- `round_div`: the quotient is rounded by the remainder, up from half on for a >= 0, down from half on for a < 0.
-use mathlib.Core.Path.{_≡_, refl, sym, ap, _∙_}
+use mathlib.Core.Path.{_≡_, sym, ap, _∙_}
 use mathlib.Core.Bool.{true, false}
-use Prim.Native.Nat.{ℕ, zero, suc, _-_, _+_, _*_, _/_, _%_, _<_, _≤_, _^_}
+use Prim.Native.Nat.{ℕ, zero, suc, _-_, _+_, _*_, _/_, _%_, _<_, _≤_}
 use native.Mathlib.Omega.{arith}
 use native.Mathlib.Nat.{mod-lt}
-use lib.Dec.{leb}
 use borrow.Author.Needs.{needs}
 use borrow.Author.Tests.{leb-true, leb-false}
 use lib.IntN.{ℤ, pos, negsuc, negℤ, natAbs, subℕ, _+ℤ_, _-ℤ_, _*ℤ_}
-use lib.Signed.{mag, quotZ, remZ, leZ}
+use lib.Signed.{quotZ, remZ, leZ}
 use mir.Syntax.{w64}
 use mir.Val.{SFits, toZ, ofZ}
 use mir.ValLaws.{toZ-ofZ, toZ-pos}
@@ -40,7 +39,8 @@ unfolding roundDiv
 down (pos a) b h t = absurd (omega (arith, leb-true (b + 2 * (a % b)) 0 t))
 down (negsuc a) b h t =
     let r = suc a % b in
-    let half : b ≤ 2 * r = sub-ind b (2 * r) (λ z. leZ z (pos 0) ≡ true → b ≤ 2 * r) (λ l _. omega arith) (λ l e. omega (arith, leb-true (b - 2 * r) 0 e)) (rw (left b r) at t) in
+    let half : b ≤ 2 * r = sub-ind b (2 * r) (λ z. leZ z (pos 0) ≡ true → b ≤ 2 * r) (λ l _. omega arith)
+    (λ l e. omega (arith, leb-true (b - 2 * r) 0 e)) (rw (left b r) at t) in
     neg-plus-neg (suc a / b) 1 ∙ ap (λ n. negℤ (pos n)) (sym (half-up (suc a) b h half))
 
 stay : (a : ℤ) (b : ℕ) → leZ (pos b) (pos 2 *ℤ remZ a (pos b)) ≡ false → leZ (pos b +ℤ pos 2 *ℤ remZ a (pos b)) (pos 0) ≡ false
@@ -49,7 +49,8 @@ unfolding roundDiv
 stay (pos a) b t u = ap pos (sym (half-stay a b (leb-false _ _ t)))
 stay (negsuc a) b t u =
     let r = suc a % b in
-    let half : 2 * r < b = sub-ind b (2 * r) (λ z. leZ z (pos 0) ≡ false → 2 * r < b) (λ l e. let z : _≡_ {A = ℕ} 0 1 = cc in absurd (omega arith)) (λ l e. omega (arith, leb-false (b - 2 * r) 0 e)) (rw (left b r) at u) in
+    let half : 2 * r < b = sub-ind b (2 * r) (λ z. leZ z (pos 0) ≡ false → 2 * r < b) (λ l e. let z : _≡_ {A = ℕ} 0 1 = cc in absurd (omega arith))
+    (λ l e. omega (arith, leb-false (b - 2 * r) 0 e)) (rw (left b r) at u) in
     ap (λ n. negℤ (pos n)) (sym (half-stay (suc a) b half))
 
 rem-small : (a : ℤ) (b : ℕ) → 0 < b → natAbs (remZ a (pos b)) < b
@@ -80,7 +81,8 @@ facts s =
 quotient-is : (s : tie.Start) → toZ w64 (ofZ w64 (quotZ (toZ w64 (ofZ w64 (s .args .a))) (toZ w64 (s .args .b)))) ≡ quotZ (s .args .a) (pos (s .args .b))
 quotient-is s = let f = facts s in simp (toZ-ofZ w64 _ (s .fits .a), f .divisor, toZ-ofZ w64 _ (f .quotient))
 
-twice-is : (s : tie.Start) → toZ w64 (ofZ w64 (pos 2 *ℤ toZ w64 (ofZ w64 (remZ (toZ w64 (ofZ w64 (s .args .a))) (toZ w64 (s .args .b)))))) ≡ pos 2 *ℤ remZ (s .args .a) (pos (s .args .b))
+twice-is : (s : tie.Start) → toZ w64 (ofZ w64 (pos 2 *ℤ toZ w64 (ofZ w64 (remZ (toZ w64 (ofZ w64 (s .args .a))) (toZ w64 (s .args .b))))))
+    ≡ pos 2 *ℤ remZ (s .args .a) (pos (s .args .b))
 twice-is s =
     let f = facts s in
     simp (toZ-ofZ w64 _ (s .fits .a), f .divisor, toZ-ofZ w64 _ (f .remainder), toZ-ofZ w64 _ (f .twice))
@@ -121,19 +123,8 @@ returns-3 : tie.Need-returns-3
 returns-3 c =
     let s = c .before .before in
     quotient-is s
-    ∙ stay (s .args .a) (s .args .b) (rw (twice-is s, facts s .divisor) at (c .before .if1 .left)) (rw (twice-is s, facts s .divisor, toZ-ofZ w64 _ (facts s .sum)) at (c .if2 .left))
+    ∙ stay (s .args .a) (s .args .b) (rw (twice-is s, facts s .divisor) at (c .before .if1 .left))
+    (rw (twice-is s, facts s .divisor, toZ-ofZ w64 _ (facts s .sum)) at (c .if2 .left))
 
 pub round-div-spec : {M : Type 1} → statement M
-round-div-spec =
-    tie.close
-    (tie.spec
-    (λ c. search needs)
-    div-quotient
-    rem-twice
-    mul-twice
-    add-result
-    returns
-    add-if2
-    sub-result
-    returns-2
-    returns-3)
+round-div-spec = tie.close (tie.spec (λ c. search needs) div-quotient rem-twice mul-twice add-result returns add-if2 sub-result returns-2 returns-3)

@@ -5,10 +5,5 @@ use Rattle.hour.proofs.pair.Tie as tie
 
 pub pair-spec : {M : Type 1} → statement M
 pair-spec =
-    tie.close
-    (tie.spec
-    (λ c. search tests)
-    (λ c. search tests)
-    (λ c κs. search needs)
-    (λ c. search (tests, ← c .before .magnitude .ensures))
+    tie.close (tie.spec (λ c. search tests) (λ c. search tests) (λ c κs. search needs) (λ c. search (tests, ← c .before .magnitude .ensures))
     (λ c. search (tests, ← c .before .magnitude .ensures)))

@@ -7,6 +7,7 @@ use native.Mathlib.Omega.{arith}
 use mir.Syntax.{w32}
 use Rattle.exact.proofs.Machine.{within}
 use Rattle.exact.proofs.Round.{round-within}
+use Rattle.limits.specs.Ranges.{mostMarketPrice}
 use Rattle.price.specs.declared.PriceAnswer.the-variants.{Price}
 use Rattle.price.specs.Price.{answerOf}
 use Rattle.price.proofs.Sizes.{Sized, average-sized}
@@ -24,20 +25,17 @@ returns c = no-quantity _ (c .if1 .taken) ∙ ap answerOf (c .before .before .be
 
 per-requires : tie.Need-per-requires
 per-requires c κs =
-    let a = c .before .before .before .before .averaged .result in
-    let z = sized (c .before .before .before .before) in
+    let av = c .before .before .before .before in
+    let a = av .averaged .result in
+    let z = sized av in
     let some : 0 < a .quantity .0 = omega (arith, c .if1 .left) in
-    let m = round-within 20000000 (a .value .0) (a .quantity .0) some (z .value) in
+    let m = round-within mostMarketPrice (a .value .0) (a .quantity .0) some (z .value) in
     (some, within w32 _ (omega arith))
 
 returns-2 : tie.Need-returns-2
-returns-2 c = ap (λ z. Price (record { 0 = z })) (c .per .ensures) ∙ some-quantity (c .before .before .before .before .before .averaged .result) (c .before .if1 .left) ∙ ap answerOf (c .before .before .before .before .before .averaged .ensures)
+returns-2 c =
+    let a = c .before .before .before .before .before .averaged in
+    ap (λ z. Price (record { 0 = z })) (c .per .ensures) ∙ some-quantity (a .result) (c .before .if1 .left) ∙ ap answerOf (a .ensures)
 
 pub average-price-spec : {M : Type 1} → statement M
-average-price-spec =
-    tie.close
-    (tie.spec
-    (λ c κs. search needs)
-    returns
-    per-requires
-    returns-2)
+average-price-spec = tie.close (tie.spec (λ c κs. search needs) returns per-requires returns-2)

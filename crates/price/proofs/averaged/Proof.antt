@@ -15,10 +15,11 @@ Inv-loop pairs n average₀ i₀ average i =
 abbrev μ-loop : tie.MeasureT-loop
 μ-loop pairs n average₀ i₀ average i = n - i
 
-sized : (c : tie.After-word2 Inv-loop μ-loop) → Sized (c .before .before .before .loop .average) (c .before .before .before .loop .i)
+sized : (c : tie.After-word2 Inv-loop μ-loop) → let l = c .before .before .before .loop in Sized (l .average) (l .i)
 sized c =
-    let s = c .before .before .before .before .before .before in
-    let l = c .before .before .before .loop in
+    let e = c .before .before .before in
+    let s = e .before .before .before in
+    let l = e .loop in
     rw (l .inv .1) (average-sized (now (s .args .pairs)) (s .args .n) (l .i) (s .pre .1) (l .inv .0))
 
 loop-holds : tie.Need-loop-holds Inv-loop μ-loop
@@ -28,7 +29,8 @@ loop-holds c = (omega arith, c .empty .ensures)
 with-interval-requires : tie.Need-with-interval-requires Inv-loop μ-loop
 with-interval-requires c κs =
     let z = sized c in
-    let q = c .before .before .before .before .before .before .pre .1 .quantity (c .before .before .before .loop .i) (c .before .before .loop-test .taken) in
+    let e = c .before .before .before in
+    let q = e .before .before .before .pre .1 .quantity (e .loop .i) (c .before .before .loop-test .taken) in
     let w = c .before .word .ensures in (omega arith, (omega arith, omega arith))
 
 loop-again : tie.Need-loop-again Inv-loop μ-loop
@@ -39,19 +41,5 @@ returns c = let e : c .before .loop .i ≡ c .before .before .before .before .ar
 
 pub averaged-spec : {M : Type 1} → statement M
 averaged-spec =
-    tie.close
-    (tie.spec
-    Inv-loop
-    μ-loop
-    (λ c κs. search needs)
-    loop-holds
-    (λ c. search needs)
-    (λ c κs. search needs)
-    (λ c. search needs)
-    (λ c. search needs)
-    (λ c κs. search needs)
-    with-interval-requires
-    (λ c. search needs)
-    (λ c. search needs)
-    loop-again
-    returns)
+    tie.close (tie.spec Inv-loop μ-loop (λ c κs. search needs) loop-holds (λ c. search needs) (λ c κs. search needs) (λ c. search needs)
+    (λ c. search needs) (λ c κs. search needs) with-interval-requires (λ c. search needs) (λ c. search needs) loop-again returns)

@@ -23,14 +23,4 @@ returns-4 : tie.Need-returns-4
 returns-4 c = sym (ap answerPrice (c .enum-told3 .given .1))
 
 pub price-of-spec : {M : Type 1} → statement M
-price-of-spec =
-    tie.close
-    (tie.spec
-    (λ c. search needs)
-    (λ c. search needs)
-    (λ c. search needs)
-    (λ c. search needs)
-    returns
-    returns-2
-    returns-3
-    returns-4)
+price-of-spec = tie.close (tie.spec (λ c. search needs) (λ c. search needs) (λ c. search needs) (λ c. search needs) returns returns-2 returns-3 returns-4)

@@ -25,7 +25,7 @@ size-is : (c : tie.After-absolute) → c .absolute .result ≡ natAbs (c .before
 size-is c = c .absolute .ensures ∙ ap natAbs (toZ-ofZ w64 (c .before .args .z) (c .before .fits .z))
 
 is-below : (c : tie.Then1) → let z = c .before .before .args .z in (1 ≤ natAbs z) × (18446744073709551615 - (natAbs z - 1) ≡ bitsOf z)
-is-below c = below (c .before .before .args .z) (rw (toZ-ofZ w64 (c .before .before .args .z) (c .before .before .fits .z)) at (c .if1 .taken))
+is-below c = let s = c .before .before in below (s .args .z) (rw (toZ-ofZ w64 (s .args .z) (s .fits .z)) at (c .if1 .taken))
 
 sub-result : tie.Need-sub-result
 sub-result c = omega (arith, size-is (c .before), is-below c .0)

@@ -1,6 +1,4 @@
 use borrow.Author.Needs.{needs}
-use Prim.Native.Nat.{_*_}
-use mathlib.Core.Path.{_≡_, sym, ap₂}
 use native.Mathlib.Omega.{arith}
 use Rattle.rse8080.specs.Call.{coded}
 use Rattle.rse8080.proofs.code.Statement.{statement}
@@ -14,12 +12,4 @@ unfolding coded
 returns c = omega (arith, c .place .ensures, c .before .number .ensures)
 
 pub code-spec : {M : Type 1} → statement M
-code-spec =
-    tie.close
-    (tie.spec
-    (λ c κs. search needs)
-    (λ c. search needs)
-    (λ c. search needs)
-    (λ c κs. search needs)
-    add-result
-    returns)
+code-spec = tie.close (tie.spec (λ c κs. search needs) (λ c. search needs) (λ c. search needs) (λ c κs. search needs) add-result returns)

@@ -17,24 +17,7 @@ returns c =
 
 pub put-number-spec : {M : Type 1} → statement M
 put-number-spec =
-    tie.close
-    (tie.spec
-    (λ c κs. search needs)
-    (λ c. search needs)
-    (λ c. search needs)
-    (λ c. search needs)
-    (λ c. simp length-set (omega arith))
-    (λ c. search needs)
-    (λ c. simp length-set (omega arith))
-    (λ c. search needs)
-    (λ c. simp length-set (omega arith))
-    (λ c. search needs)
-    (λ c. simp length-set (omega arith))
-    (λ c. search needs)
-    (λ c. simp length-set (omega arith))
-    (λ c. search needs)
-    (λ c. simp length-set (omega arith))
-    (λ c. search needs)
-    (λ c. simp length-set (omega arith))
-    (λ c. search needs)
-    returns)
+    tie.close (tie.spec (λ c κs. search needs) (λ c. search needs) (λ c. search needs) (λ c. search needs) (λ c. simp length-set (omega arith))
+    (λ c. search needs) (λ c. simp length-set (omega arith)) (λ c. search needs) (λ c. simp length-set (omega arith)) (λ c. search needs)
+    (λ c. simp length-set (omega arith)) (λ c. search needs) (λ c. simp length-set (omega arith)) (λ c. search needs)
+    (λ c. simp length-set (omega arith)) (λ c. search needs) (λ c. simp length-set (omega arith)) (λ c. search needs) returns)

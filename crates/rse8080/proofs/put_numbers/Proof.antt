@@ -1,11 +1,9 @@
-use borrow.Author.Needs.{needs}
 use denote.Ref.{now}
-use Prim.Native.Nat.{_+_, _*_, _-_, _≤_, _<_}
+use Prim.Native.Nat.{_*_, _-_, _≤_, _<_}
 use mathlib.Core.List.{_++_}
 use mathlib.Core.Path.{_≡_, refl}
 use native.Mathlib.Omega.{arith}
-use lib.IntN.{pos}
-use lib.ListN.{length, take, drop, getD}
+use lib.ListN.{length, take, drop}
 use lib.Seq.{take-all}
 use mir.Syntax.{w64}
 use Rattle.exact.proofs.Machine.{got}
@@ -33,7 +31,8 @@ loop-again c =
     let l = turn .loop in
     let h : l .i < length (now (s .numbers)) = omega arith in (
       omega arith,
-      encoded-step (now (s .numbers)) (l .i) _ (now (s .bytes)) (l .bytes) (stored .put-number .last .1 .0) h (got w64 (stored .before .before .put-number-arg .given) refl) (l .inv .1) (stored .put-number .ensures),
+      encoded-step (now (s .numbers)) (l .i) _ (now (s .bytes)) (l .bytes) (stored .put-number .last .1 .0) h
+          (got w64 (stored .before .before .put-number-arg .given) refl) (l .inv .1) (stored .put-number .ensures),
       omega arith,
     )
 
@@ -48,20 +47,5 @@ returns c =
 
 pub put-numbers-spec : {M : Type 1} → statement M
 put-numbers-spec =
-    tie.close
-    (tie.spec
-    Inv-loop
-    μ-loop
-    loop-holds
-    (λ c. omega arith)
-    (λ c. omega arith)
-    (λ c. omega arith)
-    (λ c. omega arith)
-    (λ c. omega arith)
-    (λ c. omega arith)
-    (λ c κs. omega arith)
-    (λ c. omega arith)
-    (λ c. omega arith)
-    loop-again
-    same-length
-    returns)
+    tie.close (tie.spec Inv-loop μ-loop loop-holds (λ c. omega arith) (λ c. omega arith) (λ c. omega arith) (λ c. omega arith) (λ c. omega arith)
+    (λ c. omega arith) (λ c κs. omega arith) (λ c. omega arith) (λ c. omega arith) loop-again same-length returns)

@@ -17,6 +17,4 @@ add-result c =
     rw (total, charge) (within w64 _ (omega (arith, abs-add (s .args .total) (s .args .charge), t, u)))
 
 pub sum-spec : {M : Type 1} → statement M
-sum-spec =
-    tie.close
-    (tie.spec (λ c κs. search needs) (λ c. search needs) (λ c κs. search needs) (λ c. search needs) add-result (λ c. search needs))
+sum-spec = tie.close (tie.spec (λ c κs. search needs) (λ c. search needs) (λ c κs. search needs) (λ c. search needs) add-result (λ c. search needs))

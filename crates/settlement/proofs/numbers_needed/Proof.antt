@@ -6,7 +6,9 @@ use native.Mathlib.Omega.{arith}
 use Rattle.body.specs.Layout.{coordinatorsOf}
 use Rattle.dayfile.specs.File.{areasOf, bodyAt}
 use Rattle.settlement.specs.Settlement.{neededTo}
-use Rattle.settlement.proofs.Areas.{needed-more, needed-small, placed, head-inside, count-few}
+use Rattle.settlement.proofs.Areas.{needed-more, needed-small, placed, head-inside, area-few}
+use Rattle.limits.specs.Ranges.{mostCoordinators, plainAreas}
+use Rattle.statement.specs.Block.{areaNumbers}
 use Rattle.settlement.proofs.numbers_needed.Statement.{statement}
 use Rattle.settlement.proofs.numbers_needed.Tie as tie
 
@@ -20,13 +22,15 @@ abbrev μ-loop : tie.MeasureT-loop
 below : (c : tie.In-loop Inv-loop μ-loop) → c .before .loop .k < areasOf (now (c .before .before .before .args .file))
 below c = omega (arith, c .before .before .before .pre .1, c .loop-test .taken)
 
-count : (c : tie.After-word Inv-loop μ-loop) → let f = now (c .before .before .before .before .before .args .file) in (c .word .result ≡ coordinatorsOf (bodyAt f (c .before .before .before .loop .k))) × (c .word .result ≤ 64)
+count : (c : tie.After-word Inv-loop μ-loop) →
+    let f = now (c .before .before .before .before .before .args .file) in
+    (c .word .result ≡ coordinatorsOf (bodyAt f (c .before .before .before .loop .k))) × (c .word .result ≤ mostCoordinators)
 count c =
     let s = c .before .before .before .before .before in
-    let e = c .word .ensures ∙ ap coordinatorsOf (c .before .body-at .ensures) in
-    (e, rw e (count-few (now (s .args .file)) (s .pre .0) (c .before .before .before .loop .k) (below (c .before .before))))
+    let e = c .word .ensures ∙ ap coordinatorsOf (c .before .body-at .ensures .0) in
+    (e, rw e (area-few (now (s .args .file)) (s .pre .0) (c .before .before .before .loop .k) (below (c .before .before))))
 
-small : (c : tie.In-loop Inv-loop μ-loop) → c .before .loop .needed ≤ 1608 * 32
+small : (c : tie.In-loop Inv-loop μ-loop) → c .before .loop .needed ≤ areaNumbers mostCoordinators * plainAreas
 small c =
     let s = c .before .before .before in
     let l = c .before .loop in
@@ -40,41 +44,25 @@ body-at-requires : tie.Need-body-at-requires Inv-loop μ-loop
 body-at-requires c κs = placed _ (c .before .before .before .pre .0) _ (below c)
 
 word-requires : tie.Need-word-requires Inv-loop μ-loop
-word-requires c κs = rw (c .body-at .ensures) (head-inside _ (c .before .before .before .before .pre .0) _ (below (c .before)))
+word-requires c κs = rw (c .body-at .ensures .0) (head-inside _ (c .before .before .before .before .pre .0) _ (below (c .before)))
+
+area-numbers-requires : tie.Need-area-numbers-requires Inv-loop μ-loop
+area-numbers-requires c κs = let n = count c in omega arith
 
 add-needed : tie.Need-add-needed Inv-loop μ-loop
-add-needed c = let n = count c in omega arith
-
-mul-needed : tie.Need-mul-needed Inv-loop μ-loop
-mul-needed c = let n = count c in omega arith
-
-add-needed-2 : tie.Need-add-needed-2 Inv-loop μ-loop
-add-needed-2 c = let n = count c in let m = small (c .before .before) in omega arith
+add-needed c = let n = count (c .before) in let m = small (c .before .before .before) in omega (arith, c .area-numbers .ensures)
 
 loop-again : tie.Need-loop-again Inv-loop μ-loop
 loop-again c =
-    let f = now (c .before .before .before .before .before .args .file) in
-    let l = c .before .before .before .loop in
-    let n = count c in
-    (omega arith, omega (arith, needed-more f (l .k), l .inv .1))
+    let f = now (c .before .before .before .before .before .before .args .file) in
+    let l = c .before .before .before .before .loop in
+    let n = count (c .before) in
+    (omega arith, omega (arith, needed-more f (l .k), l .inv .1, c .area-numbers .ensures))
 
 returns : tie.Need-returns Inv-loop μ-loop
 returns c = let l = c .before .loop in let e : l .k ≡ c .before .before .before .args .n = omega arith in rw (← e) (l .inv .1)
 
 pub numbers-needed-spec : {M : Type 1} → statement M
 numbers-needed-spec =
-    tie.close
-    (tie.spec
-    Inv-loop
-    μ-loop
-    loop-holds
-    body-at-requires
-    word-requires
-    (λ c. search needs)
-    add-needed
-    mul-needed
-    add-needed-2
-    (λ c. search needs)
-    (λ c. search needs)
-    loop-again
-    returns)
+    tie.close (tie.spec Inv-loop μ-loop loop-holds body-at-requires word-requires (λ c. search needs) area-numbers-requires add-needed
+    (λ c. search needs) (λ c. search needs) loop-again returns)

@@ -5,53 +5,58 @@ use mathlib.Core.List.{List, _++_}
 use mathlib.Core.Path.{_≡_, refl, sym, ap, _∙_}
 use native.Mathlib.Omega.{arith}
 use lib.IntN.{ℤ}
-use lib.ListN.{length, getD, take, drop, length-take, length-drop}
+use lib.ListN.{length, take, drop, length-take, length-drop}
 use borrow.Rule.Slice.PartMut.{putMid}
 use Rattle.exact.proofs.Lending.{lent-back}
 use Rattle.body.specs.Layout.{coordinatorsOf}
-use Rattle.dayfile.specs.File.{areasOf, peakOf, bodyAt}
+use Rattle.dayfile.specs.File.{areasOf, bodyAt}
 use Rattle.statement.specs.Block.{areaNumbers, block}
-use Rattle.settlement.specs.Settlement.{neededTo, statementTo}
-use Rattle.settlement.proofs.Areas.{needed-more, needed-within, statement-more, statement-length, placed, head-inside}
+use Rattle.settlement.specs.Settlement.{neededTo, termsAt, statementTo, listed}
+use Rattle.settlement.proofs.Areas.{needed-more, needed-within, statement-more, statement-length, placed, head-inside, area-few, needed-small}
 use Rattle.settlement.proofs.write_areas.Statement.{statement}
 use Rattle.settlement.proofs.write_areas.Tie as tie
 
 abbrev Inv-loop : tie.InvT-loop
 Inv-loop peak days file n statement₀ to₀ k₀ statement to k =
-    (k ≤ n) × (to ≡ neededTo file k) × (statement ≡ statementTo file days k ++ drop to statement₀) × (length statement ≡ length statement₀)
+    (k ≤ n) × (to ≡ neededTo file k) × (statement ≡ statementTo (listed days) file k ++ drop to statement₀)
+    × (length statement ≡ length statement₀)
 
 abbrev μ-loop : tie.MeasureT-loop
 μ-loop peak days file n statement₀ to₀ k₀ statement to k = n - k
 
-below : (c : tie.In-loop Inv-loop μ-loop) → c .before .loop .k < areasOf (now (c .before .before .before .before .args .file))
-below c = omega (arith, c .before .before .before .before .pre .0 .1 .0, c .loop-test .taken)
+abbrev start : tie.In-loop Inv-loop μ-loop → tie.Start Inv-loop μ-loop
+start c = c .before .before .before .before
+
+below : (c : tie.In-loop Inv-loop μ-loop) → c .before .loop .k < areasOf (now (start c .args .file))
+below c = omega (arith, start c .pre .0 .1 .0, c .loop-test .taken)
 
 -- the part of area k lies within the statement
-room : (c : tie.In-loop Inv-loop μ-loop) → let f = now (c .before .before .before .before .args .file) in c .before .loop .to + areaNumbers (coordinatorsOf (bodyAt f (c .before .loop .k))) ≤ length (c .before .loop .statement)
+room : (c : tie.In-loop Inv-loop μ-loop) →
+    c .before .loop .to + areaNumbers (coordinatorsOf (bodyAt (now (start c .args .file)) (c .before .loop .k))) ≤ length (c .before .loop .statement)
 room c =
-    let s = c .before .before .before .before in
+    let s = start c in
     let l = c .before .loop in
-    omega (arith, l .inv .1, l .inv .3, needed-within (now (s .args .file)) (l .k) (s .args .n) (c .loop-test .taken), s .pre .1 .1)
+    omega (arith, l .inv .1, l .inv .3, needed-within (now (s .args .file)) (l .k) (s .args .n) (c .loop-test .taken), s .pre .1)
 
-step : (file days : List ℕ) (k to m : ℕ) (before xs more : List ℤ) → length (statementTo file days k) ≡ to → xs ≡ statementTo file days k ++ drop to before
-    → more ≡ block (peakOf file) (getD days k 0) (bodyAt file k) ++ drop m (take (length xs - to) (drop to xs))
-    → putMid to (length xs - to) xs more ≡ statementTo file days (k + 1) ++ drop (to + m) before
-step file days k to m before xs more long stands came =
-    lent-back (statementTo file days k) before (block (peakOf file) (getD days k 0) (bodyAt file k)) xs more to m long stands came
+step : (days : ℕ → ℕ) (file : List ℕ) (k to m : ℕ) (before xs more : List ℤ) → length (statementTo days file k) ≡ to
+    → xs ≡ statementTo days file k ++ drop to before → more ≡ block (termsAt days file k) (bodyAt file k) ++ drop m (take (length xs - to) (drop to xs))
+    → putMid to (length xs - to) xs more ≡ statementTo days file (k + 1) ++ drop (to + m) before
+step days file k to m before xs more long stands came =
+    lent-back (statementTo days file k) before (block (termsAt days file k) (bodyAt file k)) xs more to m long stands came
     ∙ ap (λ w. w ++ drop (to + m) before) (sym (statement-more file days k))
-
-count : (c : tie.After-word Inv-loop μ-loop) → c .word .result ≡ coordinatorsOf (bodyAt (now (c .before .before .before .before .before .before .before .before .before .before .args .file)) (c .before .before .before .before .before .before .before .loop .k))
-count c = c .word .ensures ∙ ap coordinatorsOf (c .before .before .before .before .before .body-at .ensures)
 
 loop-holds : tie.Need-loop-holds Inv-loop μ-loop
 unfolding neededTo statementTo
 loop-holds c = (omega arith, refl, refl, refl)
 
-body-at-requires : tie.Need-body-at-requires Inv-loop μ-loop
-body-at-requires c κs = placed _ (c .before .before .before .before .pre .0 .0) _ (below c)
+shared-slice-read-area-numbers : tie.Need-shared-slice-read-area-numbers Inv-loop μ-loop
+shared-slice-read-area-numbers c = let i = c .before in omega (arith, start i .pre .0 .0 .enough, below i)
 
-mul-write-area-2 : tie.Need-mul-write-area-2 Inv-loop μ-loop
-mul-write-area-2 c = let r = room (c .before .before) in omega arith
+body-at-requires : tie.Need-body-at-requires Inv-loop μ-loop
+body-at-requires c κs = let i = c .before in placed _ (start i .pre .0 .0 .sound) _ (below i)
+
+mul-write-area : tie.Need-mul-write-area Inv-loop μ-loop
+mul-write-area c = let r = room (c .before .before) in omega arith
 
 sub-write-area : tie.Need-sub-write-area Inv-loop μ-loop
 sub-write-area c = let r = room (c .before .before) in omega arith
@@ -61,27 +66,53 @@ part-write-area-start c = let r = room (c .before .before) in omega arith
 
 write-area-requires : tie.Need-write-area-requires Inv-loop μ-loop
 write-area-requires c κs =
-    let s = c .before .before .before .before .before .before .before in
-    let k = c .before .before .before .before .loop .k in
-    rw (c .before .before .body-at .ensures)
-    ((s .pre .0 .0 .body k (below (c .before .before .before)), s .pre .1 .0 .1 k (c .before .before .before .loop-test .taken)), simp (length-take, length-drop) (omega (arith, room (c .before .before .before))))
+    let i = c .before .before .before in
+    let s = start i .pre .0 .0 in
+    rw (c .before .body-at .ensures .0)
+    ((record { days = s .kept .each _ (below i) }, s .sound .body _ (below i)), simp (length-take, length-drop) (omega (arith, room i)))
+
+-- back from K of the area to its turn
+abbrev turn : tie.After-word Inv-loop μ-loop → tie.In-loop Inv-loop μ-loop
+turn c = c .before .before .before .before .before .before
+
+count : (c : tie.After-word Inv-loop μ-loop) →
+    let i = turn c in
+    c .word .result ≡ coordinatorsOf (bodyAt (now (start i .args .file)) (i .before .loop .k))
+count c = c .word .ensures ∙ ap coordinatorsOf (c .before .before .before .before .body-at .ensures .0)
 
 word-requires : tie.Need-word-requires Inv-loop μ-loop
-word-requires c κs = rw (c .before .before .before .before .body-at .ensures) (head-inside _ (c .before .before .before .before .before .before .before .before .before .pre .0 .0) _ (below (c .before .before .before .before .before)))
+word-requires c κs =
+    let i = c .before .before .before .before .before in
+    rw (c .before .before .before .body-at .ensures .0) (head-inside _ (start i .pre .0 .0 .sound) _ (below i))
 
-add-to-2 : tie.Need-add-to-2 Inv-loop μ-loop
-add-to-2 c = let r = room (c .before .before .before .before .before .before) in let n = count c in omega arith
+area-numbers-requires : tie.Need-area-numbers-requires Inv-loop μ-loop
+area-numbers-requires c κs = rw (count c) (area-few _ (start (turn c) .pre .0 .0 .sound) _ (below (turn c)))
+
+add-to : tie.Need-add-to Inv-loop μ-loop
+add-to c =
+    let w = c .before in
+    let i = turn w in
+    let sound = start i .pre .0 .0 .sound in
+    let l = i .before .loop in
+    let few = area-few _ sound (l .k) (below i) in
+    let to = needed-small _ sound (l .k) (omega (arith, below i)) in
+    omega (arith, l .inv .1, to, sound .few, below i, c .area-numbers .ensures, count w, few)
 
 loop-again : tie.Need-loop-again Inv-loop μ-loop
 loop-again c =
-    let s = c .before .before .before .before .before .before .before .before .before .before in
+    let i = turn (c .before) in
+    let s = start i in
     let a = s .args in
     let f = now (a .file) in
-    let l = c .before .before .before .before .before .before .before .loop in
-    let n = count c in (
+    let l = i .before .loop in
+    let n = c .area-numbers .ensures ∙ ap areaNumbers (count (c .before)) in
+    let long = statement-length f (s .pre .0 .0 .sound) (listed (now (a .days))) (l .k) (omega (arith, below i)) in
+    let b = c .before .before .before .before .before in (
       omega arith,
       rw n (omega (arith, needed-more f (l .k), l .inv .1)),
-      rw n (step f (now (a .days)) (l .k) (l .to) (areaNumbers (coordinatorsOf (bodyAt f (l .k)))) (now (a .statement)) (l .statement) _ (statement-length f (s .pre .0 .0) (now (a .days)) (l .k) (omega (arith, below (c .before .before .before .before .before .before))) ∙ sym (l .inv .1)) (l .inv .2) (rw (c .before .before .before .before .before .body-at .ensures, s .pre .0 .1 .1) at (c .before .before .write-area .ensures))),
+      rw n
+          (step (listed (now (a .days))) f (l .k) (l .to) (areaNumbers (coordinatorsOf (bodyAt f (l .k)))) (now (a .statement)) (l .statement) _
+          (long ∙ sym (l .inv .1)) (l .inv .2) (rw (b .body-at .ensures .0, s .pre .0 .1 .1) at (c .before .before .before .write-area .ensures))),
       omega arith,
     )
 
@@ -96,26 +127,6 @@ returns c =
 
 pub write-areas-spec : {M : Type 1} → statement M
 write-areas-spec =
-    tie.close
-    (tie.spec
-    Inv-loop
-    μ-loop
-    loop-holds
-    body-at-requires
-    (λ c. search needs)
-    (λ c. search needs)
-    mul-write-area-2
-    sub-write-area
-    part-write-area-start
-    (λ c. search needs)
-    write-area-requires
-    word-requires
-    (λ c. search needs)
-    (λ c. search needs)
-    (λ c. search needs)
-    add-to-2
-    (λ c. search needs)
-    (λ c. search needs)
-    loop-again
-    same-length
-    returns)
+    tie.close (tie.spec Inv-loop μ-loop loop-holds (λ c. search needs) shared-slice-read-area-numbers body-at-requires mul-write-area sub-write-area
+    part-write-area-start (λ c. search needs) write-area-requires word-requires (λ c. search needs) area-numbers-requires add-to (λ c. search needs)
+    (λ c. search needs) loop-again same-length returns)

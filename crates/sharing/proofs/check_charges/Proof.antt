@@ -11,7 +11,7 @@ use Rattle.sharing.proofs.check_charges.Statement.{statement}
 use Rattle.sharing.proofs.check_charges.Tie as tie
 
 -- what `shareable` told, over the amount itself
-known : (c : tie.After-shareable) → let s = c .before .args in c .shareable .result ≡ (eqb (natAbs (s .amount)) 0 || ltb 0 (s .total))
+known : (c : tie.After-shareable) → let s = c .before .args in c .shareable .result ≡ (eqb (natAbs (s .amount)) 0 || ltb 0 (s .whole))
 known c = rw (toZ-ofZ w64 _ (c .before .fits .amount)) at (c .shareable .ensures)
 
 returns : tie.Need-returns

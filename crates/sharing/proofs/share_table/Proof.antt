@@ -5,11 +5,12 @@ use borrow.Author.Tests.{lt-leb, le-leb}
 use lib.ListN.{length, length-take}
 use mir.Syntax.{w64}
 use mir.ValLaws.{toZ-ofZ}
+use Rattle.limits.specs.Ranges.{mostCoordinators}
 use Rattle.sharing.proofs.Columns.{full}
 use Rattle.sharing.proofs.share_table.Statement.{statement}
 use Rattle.sharing.proofs.share_table.Tie as tie
 
-columns-full : (c : tie.Start) → (length (c .args .table .coordinators) ≡ 64) × (length (c .args .table .demands) ≡ 64)
+columns-full : (c : tie.Start) → (length (c .args .table .coordinators) ≡ mostCoordinators) × (length (c .args .table .demands) ≡ mostCoordinators)
 columns-full c = full (c .args .table) (c .good .1 .0)
 
 returns : tie.Need-returns
@@ -42,14 +43,5 @@ returns-3 c =
 
 pub share-table-spec : {M : Type 1} → statement M
 share-table-spec =
-    tie.close
-    (tie.spec
-    returns
-    returns-2
-    array-share-prefix-coordinators
-    slice-aggregate-share-columns
-    array-share-prefix-demands
-    slice-aggregate-share-columns-2
-    share-columns-requires
-    (λ c. search needs)
-    returns-3)
+    tie.close (tie.spec returns returns-2 array-share-prefix-coordinators slice-aggregate-share-columns array-share-prefix-demands
+    slice-aggregate-share-columns-2 share-columns-requires (λ c. search needs) returns-3)

@@ -9,9 +9,4 @@ cast-signed : tie.Need-cast-signed
 cast-signed c = rw (toZ-ofZ w32 _ (c .fits .z)) (sfits-widen tt (c .fits .z))
 
 pub signed-word-spec : {M : Type 1} → statement M
-signed-word-spec =
-    tie.close
-    (tie.spec
-    cast-signed
-    (λ c κs. search needs)
-    (λ c. search needs))
+signed-word-spec = tie.close (tie.spec cast-signed (λ c κs. search needs) (λ c. search needs))

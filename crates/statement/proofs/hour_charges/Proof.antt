@@ -1,14 +1,7 @@
 use borrow.Author.Needs.{needs}
-use denote.Ref.{now}
-use Prim.Native.Nat.{_+_, _*_, _≤_}
-use mathlib.Core.List.{_++_}
-use mathlib.Core.Path.{_≡_, sym, ap, _∙_}
-use native.Mathlib.Omega.{arith}
-use lib.ListN.{length, drop}
+use mathlib.Core.Path.{_∙_}
 use mir.Syntax.{w64}
 use mir.ValLaws.{toZ-ofZ}
-use Rattle.hour.specs.Layout.{runningDemand}
-use Rattle.statement.specs.Block.{chargesFrom}
 use Rattle.statement.proofs.hour_charges.Statement.{statement}
 use Rattle.statement.proofs.hour_charges.Tie as tie
 
@@ -17,26 +10,20 @@ write-charges-requires c κs =
     let s = c .before .before .before .before .before in
     let d = s .pre .1 .0 in
     rw (toZ-ofZ w64 _ (s .fits .amount), c .before .before .before .word .ensures, c .before .before .word2 .ensures, c .before .word3 .ensures)
-    ((s .pre .0, (d .some, s .pre .1 .1)), ((d .few, (d .room, d .total)), d .alone))
+    ((s .pre .0, (d .some, s .pre .1 .1)), ((d .few, (d .room, d .sum)), d .alone))
 
 returns : tie.Need-returns
 returns c =
     let s = c .before .before .before .before .before .before .before in
     c .before .write-charges .ensures
-    ∙ rw (toZ-ofZ w64 _ (s .fits .amount), c .before .before .before .before .before .word .ensures, c .before .before .before .before .word2 .ensures, c .before .before .before .word3 .ensures)
+    ∙ rw (
+      toZ-ofZ w64 _ (s .fits .amount),
+      c .before .before .before .before .before .word .ensures,
+      c .before .before .before .before .word2 .ensures,
+      c .before .before .before .word3 .ensures,
+    )
 
 pub hour-charges-spec : {M : Type 1} → statement M
 hour-charges-spec =
-    tie.close
-    (tie.spec
-    (λ c κs. search needs)
-    (λ c κs. search needs)
-    (λ c. search needs)
-    (λ c κs. search needs)
-    (λ c. search needs)
-    (λ c. search needs)
-    (λ c. search needs)
-    (λ c. search needs)
-    write-charges-requires
-    (λ c. search needs)
-    returns)
+    tie.close (tie.spec (λ c κs. search needs) (λ c κs. search needs) (λ c. search needs) (λ c κs. search needs) (λ c. search needs)
+    (λ c. search needs) (λ c. search needs) (λ c. search needs) write-charges-requires (λ c. search needs) returns)

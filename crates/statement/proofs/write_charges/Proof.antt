@@ -1,15 +1,14 @@
 use borrow.Author.Needs.{needs}
 use denote.Ref.{now}
-use Prim.Native.Nat.{_≤_}
-use mathlib.Core.List.{[], _∷_, _++_}
-use mathlib.Core.Path.{_≡_, sym, ap, ap₂, _∙_}
+use mathlib.Core.List.{[], _∷_}
+use mathlib.Core.Path.{sym, ap, _∙_}
 use native.Mathlib.Omega.{arith}
-use lib.ListN.{length, drop, set}
+use lib.ListN.{length, set}
 use lib.Seq.{sets-eq}
 use mir.Syntax.{w64}
 use mir.ValLaws.{toZ-ofZ}
-use Rattle.shares.specs.Shares.{shares, total}
-use Rattle.statement.proofs.Demands.{demand-length, demand-total}
+use Rattle.words.proofs.Words.{words-count}
+use Rattle.shares.proofs.Sharing.{share-fits}
 use Rattle.statement.proofs.Charges.{charges-one, charges-shared}
 use Rattle.statement.proofs.write_charges.Statement.{statement}
 use Rattle.statement.proofs.write_charges.Tie as tie
@@ -24,33 +23,27 @@ returns c =
     (ap (λ v. set xs 0 v) (toZ-ofZ w64 (a .amount) (s .fits .amount)) ∙ sets-eq (a .amount ∷ []) xs 0 (omega arith))
 
 slice-aggregate-share-demands : tie.Need-slice-aggregate-share-demands
-slice-aggregate-share-demands c = let a = c .before .before .before .before .args in sym (ap length (c .before .demands-from .ensures) ∙ demand-length (now (a .body)) (a .from) (a .count))
+slice-aggregate-share-demands c =
+    let a = c .before .before .before .before .args in
+    sym (ap length (c .before .demands-from .ensures) ∙ words-count (now (a .body)) (a .from) (a .count))
 
 share-demands-requires : tie.Need-share-demands-requires
 share-demands-requires c κs =
     let s = c .before .before .before .before .before in
     let a = s .args in
-    rw (toZ-ofZ w64 _ (s .fits .amount), c .before .before .demands-from .ensures, demand-total (now (a .body)) (a .from) (a .count), demand-length (now (a .body)) (a .from) (a .count))
-    (s .pre .0 .0, (s .pre .1 .0 .1 .1, s .pre .0 .1 .1))
+    let m = s .pre .1 .0 .1 .1 in
+    rw (toZ-ofZ w64 _ (s .fits .amount), c .before .before .demands-from .ensures, words-count (now (a .body)) (a .from) (a .count))
+    (share-fits (a .amount) _ (s .pre .0 .0) m, (omega (arith, m), s .pre .0 .1 .1))
 
 returns-2 : tie.Need-returns-2
 returns-2 c =
     let s = c .before .before .before .before .before .before .before in
     let a = s .args in
-    let m = demand-length (now (a .body)) (a .from) (a .count) in
-    c .before .share-demands .ensures
-    ∙ rw (toZ-ofZ w64 _ (s .fits .amount), c .before .before .before .before .demands-from .ensures, m, charges-shared (a .kind) (a .amount) (now (a .body)) (a .from) (a .count) (c .before .before .before .before .before .if1 .left))
+    let m = words-count (now (a .body)) (a .from) (a .count) in
+    let shared = charges-shared (a .kind) (a .amount) (now (a .body)) (a .from) (a .count) (c .before .before .before .before .before .if1 .left) in
+    c .before .share-demands .ensures ∙ rw (toZ-ofZ w64 _ (s .fits .amount), c .before .before .before .before .demands-from .ensures, m, shared)
 
 pub write-charges-spec : {M : Type 1} → statement M
 write-charges-spec =
-    tie.close
-    (tie.spec
-    (λ c. search needs)
-    (λ c. search needs)
-    returns
-    (λ c κs. search needs)
-    (λ c. search needs)
-    slice-aggregate-share-demands
-    share-demands-requires
-    (λ c. search needs)
-    returns-2)
+    tie.close (tie.spec (λ c. search needs) (λ c. search needs) returns (λ c κs. search needs) (λ c. search needs) slice-aggregate-share-demands
+    share-demands-requires (λ c. search needs) returns-2)

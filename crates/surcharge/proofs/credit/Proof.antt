@@ -1,23 +1,20 @@
 use borrow.Author.Needs.{needs}
 use mathlib.Core.Path.{ap, _∙_}
-use Prim.Native.Nat.{_*_, _≤_}
 use native.Mathlib.Omega.{arith}
 use borrow.Author.Tests.{eq-eqb, ne-eqb}
 use lib.IntN.{pos, _*ℤ_}
 use mir.Syntax.{w64}
-use Rattle.exact.proofs.Magnitude.{abs-mul≤}
 use Rattle.exact.proofs.Machine.{within}
 use Rattle.surcharge.specs.Surcharge.{creditOf}
+use Rattle.surcharge.proofs.Sizes.{at-market-small}
 use Rattle.surcharge.proofs.credit.Statement.{statement}
 use Rattle.surcharge.proofs.credit.Tie as tie
 
 scaled-requires : tie.Need-scaled-requires
 scaled-requires c κs =
     let s = c .before .before in
-    let m = pos (s .args .most .0) in
-    let p = s .args .price .0 in
     rw (c .at-market-price .ensures)
-    (within w64 _ (omega (arith, abs-mul≤ (10000000 * 20000000) 4 (m *ℤ p) (pos 4) (abs-mul≤ 10000000 20000000 m p (s .pre .0) (s .pre .1)) (omega arith))))
+    (within w64 _ (omega (arith, at-market-small 4 (s .args .most .0) (s .args .price .0) (pos 4) (s .pre .0) (s .pre .1) (omega arith))))
 
 returns : tie.Need-returns
 unfolding creditOf
@@ -28,10 +25,4 @@ unfolding creditOf
 returns-2 c = simp (ne-eqb _ _ (c .if1 .left))
 
 pub credit-spec : {M : Type 1} → statement M
-credit-spec =
-    tie.close
-    (tie.spec
-    (λ c κs. search needs)
-    scaled-requires
-    returns
-    returns-2)
+credit-spec = tie.close (tie.spec (λ c κs. search needs) scaled-requires returns returns-2)

@@ -19,11 +19,4 @@ returns-2 c =
     ∙ simp (lt-leb _ _ (c .before .before .before .if1 .left))
 
 pub downward-spec : {M : Type 1} → statement M
-downward-spec =
-    tie.close
-    (tie.spec
-    returns
-    (λ c κs. search needs)
-    (λ c κs. search needs)
-    (λ c κs. search needs)
-    returns-2)
+downward-spec = tie.close (tie.spec returns (λ c κs. search needs) (λ c κs. search needs) (λ c κs. search needs) returns-2)

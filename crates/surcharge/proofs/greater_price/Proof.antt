@@ -22,8 +22,4 @@ returns-2 c =
     simp t
 
 pub greater-price-spec : {M : Type 1} → statement M
-greater-price-spec =
-    tie.close
-    (tie.spec
-    returns
-    returns-2)
+greater-price-spec = tie.close (tie.spec returns returns-2)

@@ -13,7 +13,11 @@ use Rattle.surcharge.proofs.on_peak.Statement.{statement}
 use Rattle.surcharge.proofs.on_peak.Tie as tie
 
 -- S less the credit
-value : (c : tie.After-credit) → let s = c .before .before .before .before .args in let d = s .day in c .before .surcharge .result .0 -ℤ c .credit .result .0 ≡ surchargeOf (d .most .0) (d .hub .0) (d .tier) (d .days) -ℤ creditOf (d .most .0) (s .tier) (s .price .0)
+value : (c : tie.After-credit) →
+    let s = c .before .before .before .before .args in
+    let d = s .day in
+    c .before .surcharge .result .0 -ℤ c .credit .result .0
+    ≡ surchargeOf (s .terms) (d .most .0) (d .hub .0) (d .tier) -ℤ creditOf (d .most .0) (s .tier) (s .price .0)
 value c = ap₂ _-ℤ_ (c .before .surcharge .ensures) (c .credit .ensures)
 
 returns : tie.Need-returns
@@ -23,25 +27,24 @@ returns c = simp (le-leb _ _ (c .if1 .taken))
 minus-requires : tie.Need-minus-requires
 minus-requires c κs =
     let s = c .before .before .before .before in
-    let d = s .args .day in
+    let a = s .args in
+    let d = a .day in
+    let k = s .pre .0 in
     rw (value c)
-    (within w64 _ (omega (arith, difference-small (d .most .0) (s .pre .0 .most) (d .hub .0) (d .tier) (d .days) (s .args .tier) (s .args .price .0) (s .pre .0 .hub) (s .pre .0 .days) (s .pre .1))))
+    (within w64 _ (omega (
+      arith,
+      difference-small (a .terms) (k .0) (d .most .0) (k .1 .most) (d .hub .0) (d .tier) (a .tier) (a .price .0) (k .1 .hub)
+          (s .pre .1),
+    )))
 
 returns-2 : tie.Need-returns-2
 unfolding onPeakOf
 returns-2 c =
     c .rounded .ensures
-    ∙ ap (λ z. roundDiv z 400000) (c .before .at-least-zero .ensures ∙ ap atLeastZero (c .before .before .minus .ensures ∙ value (c .before .before .before)))
+    ∙ ap (λ z. roundDiv z 400000)
+    (c .before .at-least-zero .ensures ∙ ap atLeastZero (c .before .before .minus .ensures ∙ value (c .before .before .before)))
     ∙ simp (lt-leb _ _ (c .before .before .before .before .before .if1 .left))
 
 pub on-peak-spec : {M : Type 1} → statement M
 on-peak-spec =
-    tie.close
-    (tie.spec
-    returns
-    (λ c κs. search needs)
-    (λ c κs. search needs)
-    minus-requires
-    (λ c κs. search needs)
-    (λ c κs. search needs)
-    returns-2)
+    tie.close (tie.spec returns (λ c κs. search needs) (λ c κs. search needs) minus-requires (λ c κs. search needs) (λ c κs. search needs) returns-2)

@@ -5,12 +5,5 @@ use Rattle.surcharge.proofs.tier.Tie as tie
 
 pub tier-spec : {M : Type 1} → statement M
 tier-spec =
-    tie.close
-    (tie.spec
-    (λ c. search tests)
-    (λ c. search tests)
-    (λ c. search needs)
-    (λ c. search tests)
-    (λ c. search needs)
-    (λ c. search tests)
+    tie.close (tie.spec (λ c. search tests) (λ c. search tests) (λ c. search needs) (λ c. search tests) (λ c. search needs) (λ c. search tests)
     (λ c. search tests))

@@ -9,12 +9,5 @@ slice-aggregate-settle-bytes c = simp length-take (omega arith)
 
 pub c-call-spec : {M : Type 1} → statement M
 c-call-spec =
-    tie.close
-    (tie.spec
-    (λ c κs. search needs)
-    (λ c. search needs)
-    (λ c κs. search needs)
-    (λ c. search needs)
-    slice-aggregate-settle-bytes
-    (λ c κs. search needs)
-    (λ c. search needs))
+    tie.close (tie.spec (λ c κs. search needs) (λ c. search needs) (λ c κs. search needs) (λ c. search needs) slice-aggregate-settle-bytes
+    (λ c κs. search needs) (λ c. search needs))

@@ -12,9 +12,4 @@ add-result : tie.Need-add-result
 add-result c = rw (toZ-pos w64 (c .args .i) (omega arith)) (within w64 _ (omega (arith, abs-add (negsuc 8999999999999999999) (pos (c .args .i)))))
 
 pub lent-spec : {M : Type 1} → statement M
-lent-spec =
-    tie.close
-    (tie.spec
-    (λ c. search needs)
-    add-result
-    (λ c. search needs))
+lent-spec = tie.close (tie.spec (λ c. search needs) add-result (λ c. search needs))

@@ -8,7 +8,8 @@ use Rattle.exact.proofs.Machine.{got}
 use Rattle.units.proofs.CentsOver100000.per.Statement.{statement}
 use Rattle.units.proofs.CentsOver100000.per.Tie as tie
 
-rounded : (c : tie.After-round-div) → toZ w64 (ofZ w64 (c .round-div .result)) ≡ roundDiv (c .before .before .args .self .0) (c .before .before .args .quantity .0)
+rounded : (c : tie.After-round-div) → toZ w64 (ofZ w64 (c .round-div .result))
+    ≡ roundDiv (c .before .before .args .self .0) (c .before .before .args .quantity .0)
 rounded c = got w64 (c .round-div .ok) (c .round-div .ensures ∙ search needs)
 
 cast-t4 : tie.Need-cast-t4

@@ -1,9 +1,3 @@
 pub mod Walk
 pub mod Accepted
 pub mod Columns
-pub mod Charges
-pub mod AddsUp
-pub mod WithinACent
-pub mod Merged
-pub mod MergedAccepted
-pub mod Turned

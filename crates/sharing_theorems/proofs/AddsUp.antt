@@ -6,10 +6,10 @@ use lib.ListN.{length}
 use Rattle.verdict.specs.Verdict.{numberOf}
 use Rattle.shares.specs.Shares.{sum}
 use Rattle.shares.proofs.AddsUp.{adds-up}
 use Rattle.sharing.specs.declared.Row.{Row}
 use Rattle.sharing.specs.Rows.{demandColumn, shareOf}
-use Rattle.sharing.specs.Charged.{rowCharges}
-use Rattle.sharing.proofs.Charges.{accepted, charged}
+use Rattle.sharing_theorems.specs.Charged.{rowCharges}
+use Rattle.sharing_theorems.proofs.Charges.{accepted, charged}
 
 pub charges-add-up : (amount : ℤ) (rows : List Row) (charges : List ℤ) → numberOf (shareOf amount rows (length charges)) ≡ 0
     → sum (rowCharges amount rows charges) ≡ amount

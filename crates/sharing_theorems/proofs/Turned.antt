@@ -7,10 +7,10 @@ use lib.ListN.{length}
 use Rattle.verdict.specs.Verdict.{numberOf}
 use Rattle.exact.proofs.Magnitude.{abs-neg}
 use Rattle.shares.proofs.Turned.{turned}
 use Rattle.sharing.specs.declared.Row.{Row}
 use Rattle.sharing.specs.Rows.{demandColumn, columnsRule, shareOf}
-use Rattle.sharing.specs.Charged.{rowCharges}
-use Rattle.sharing.proofs.Charges.{charged}
+use Rattle.sharing_theorems.specs.Charged.{rowCharges}
+use Rattle.sharing_theorems.proofs.Charges.{charged}
 
 -- accepted or refused
 pub answer-turned : (amount : ℤ) (rows : List Row) (room : ℕ) → shareOf (negℤ amount) rows room ≡ shareOf amount rows room

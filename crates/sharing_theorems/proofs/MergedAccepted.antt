@@ -17,11 +17,11 @@ use Rattle.exact.proofs.Totals.{total-append, total-next}
 use Rattle.limits.specs.Ranges.{mostCoordinators, mostDemand, mostAmount, largestNumber}
 use Rattle.shares.specs.Shares.{mergedAt}
 use Rattle.shares.proofs.Merged.{merged-length, total-merged}
 use Rattle.sharing.specs.declared.Row.{Row}
 use Rattle.sharing.specs.Rows.{coordinatorColumn, demandColumn, rowRule, coordinatorAbove, rowRuleAt, rowsRule, chargesRule, columnsRule, shareOf}
-use Rattle.sharing.specs.Charged.{mergedRow, mergedRows, Mergeable}
+use Rattle.sharing_theorems.specs.Charged.{mergedRow, mergedRows, Mergeable}
 use Rattle.sharing.proofs.Accepted.{rows-total}
-use Rattle.sharing.proofs.Merged.{demands-merged, coordinators-merged}
+use Rattle.sharing_theorems.proofs.Merged.{demands-merged, coordinators-merged}
 
 -- ---- numbers that rise: each is above the one before it, the first above `before`, and none is above the largest
 

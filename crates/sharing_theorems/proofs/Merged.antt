@@ -9,10 +9,10 @@ use Rattle.verdict.specs.Verdict.{numberOf}
 use Rattle.exact.specs.Total.{total}
 use Rattle.shares.specs.Shares.{shares, sum, mergedAt}
 use Rattle.shares.proofs.Merged.{merged}
 use Rattle.sharing.specs.declared.Row.{Row}
 use Rattle.sharing.specs.Rows.{coordinatorColumn, demandColumn, shareOf}
-use Rattle.sharing.specs.Charged.{rowCharges, mergedRow, mergedRows}
-use Rattle.sharing.proofs.Charges.{charged}
+use Rattle.sharing_theorems.specs.Charged.{rowCharges, mergedRow, mergedRows}
+use Rattle.sharing_theorems.proofs.Charges.{charged}
 
 -- a column of the rows, and of the rows with neighbours merged
 module _ (field : Row → ℕ) where

@@ -9,10 +9,10 @@ use Rattle.verdict.specs.Verdict.{numberOf}
 use Rattle.exact.specs.Total.{total}
 use Rattle.shares.specs.Shares.{apart}
 use Rattle.shares.proofs.WithinACent.{within-a-cent}
 use Rattle.sharing.specs.declared.Row.{Row}
 use Rattle.sharing.specs.Rows.{demandColumn, shareOf}
-use Rattle.sharing.specs.Charged.{rowCharges}
-use Rattle.sharing.proofs.Charges.{charged}
+use Rattle.sharing_theorems.specs.Charged.{rowCharges}
+use Rattle.sharing_theorems.proofs.Charges.{charged}
 
 pub charges-within-a-cent : (amount : ℤ) (rows : List Row) (charges : List ℤ) → numberOf (shareOf amount rows (length charges)) ≡ 0
     → 0 < total (demandColumn rows) → (i : ℕ) → i < length rows

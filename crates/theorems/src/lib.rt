@@ -1,1 +1,1 @@
-// The theorems of the three demands: definitions and proofs alone, in specs/ and proofs/.
+// The theorems about one settled file, or one that is refused: definitions and proofs alone, in specs/ and proofs/.

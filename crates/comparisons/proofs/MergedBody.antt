@@ -13,10 +13,10 @@ use Rattle.amounts.specs.Amounts.{onPeakAmount, offPeakAmount, downwardAmount, 
 use Rattle.statement.specs.Block.{chargesAt, hourBlock}
 use Rattle.statement.proofs.Charges.{charges-shared}
 use Rattle.settlement.specs.Settlement.{chargeable}
-use Rattle.theorems.specs.Merge.{Merged}
-use Rattle.theorems.proofs.SameAmounts.{SameAmounts, kind-same, amount-same, on-peak-same, off-peak-same, downward-same, priced-same}
-use Rattle.theorems.proofs.SameHours.{same-amounts}
+use Rattle.comparisons.specs.Merge.{Merged}
+use Rattle.comparisons.proofs.SameAmounts.{SameAmounts, kind-same, amount-same, on-peak-same, off-peak-same, downward-same, priced-same}
+use Rattle.comparisons.proofs.SameHours.{same-amounts}
 use Rattle.theorems.proofs.SettledExactly.{HourSettled}
 
 module _ (i n : ℕ) (body other : List ℕ) (m : Merged i n body other) where
   same : SameAmounts body other

@@ -18,11 +18,11 @@ use Rattle.body.specs.Kept.{Sound}
 use Rattle.body.proofs.Kept.{always, hour-demand}
 use Rattle.words.specs.Bytes.{Below, wordsFrom}
 use Rattle.words.proofs.Words.{words-count, words-at}
-use Rattle.theorems.specs.Merge.{Mergeable, Merged, mergedBody}
-use Rattle.theorems.proofs.Joined.{merged-before, merged-there, merged-behind}
-use Rattle.theorems.proofs.SameHours.{quantity-same, price-same}
-use Rattle.theorems.proofs.MergedBody.{demand-same}
-use Rattle.theorems.proofs.MergeWords.{other-length, head-is, count-is, coordinator-is, built}
+use Rattle.comparisons.specs.Merge.{Mergeable, Merged, mergedBody}
+use Rattle.comparisons.proofs.Joined.{merged-before, merged-there, merged-behind}
+use Rattle.comparisons.proofs.SameHours.{quantity-same, price-same}
+use Rattle.comparisons.proofs.MergedBody.{demand-same}
+use Rattle.comparisons.proofs.MergeWords.{other-length, head-is, count-is, coordinator-is, built}
 
 running-next : (body : List ℕ) (from j : ℕ) → total (wordsFrom body from (suc j)) ≡ total (wordsFrom body from j) + wordAt body (from + j)
 running-next body from j = rw (← add-one j) (total-more body from j)

@@ -10,7 +10,7 @@ use lib.ListN.{length, getD, take, drop, length-append, length-take, length-drop
 use lib.Seq.{getD-append-add, getD-at, getD-take, getD-drop, length-take-le}
 use Rattle.words.specs.Bytes.{Below}
 use Rattle.shares.specs.Shares.{mergedAt}
-use Rattle.theorems.specs.Merge.{joined}
+use Rattle.comparisons.specs.Merge.{joined}
 
 module _ (f : ℕ → List ℕ) (width : ℕ) where
   pub joined-length : (m : ℕ) → ((h : ℕ) → h < m → length (f h) ≡ width) → length (joined f m) ≡ m * width

@@ -18,10 +18,10 @@ use Rattle.dayfile.specs.Check.{checkOf, checkWithin}
 use Rattle.acceptance.proofs.SoundAccepted.{file-sound}
 use Rattle.dayfile.proofs.Facts.{file-entry, body-length}
 use Rattle.words.specs.Bytes.{ChangedAt}
-use Rattle.theorems.specs.Changed.{quantityWord, PriceIsMissing}
-use Rattle.theorems.proofs.Alike.{same-alike}
-use Rattle.theorems.proofs.AlikeFiles.{AlikeFiles}
-use Rattle.theorems.proofs.ChangedBody.{changed-alike}
+use Rattle.comparisons.specs.Changed.{quantityWord, PriceIsMissing}
+use Rattle.comparisons.proofs.Alike.{same-alike}
+use Rattle.comparisons.proofs.AlikeFiles.{AlikeFiles}
+use Rattle.comparisons.proofs.ChangedBody.{changed-alike}
 
 -- ---- the words of a part, from the words of the whole
 

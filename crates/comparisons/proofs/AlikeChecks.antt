@@ -13,7 +13,7 @@ use Rattle.verdict.specs.First.{_orElse_}
 use Rattle.body.specs.Layout.{hourAt, pointsOf, coordinatorsOf, coordinatorBefore, intervalsAt, quantityAt, demandsAt}
 use Rattle.hour.specs.Check.{deficiencyRuleAt, deficienciesRule, intervalRuleAt, intervalsRule, demandRuleAt, demandsRule, numbersRule, hourRule}
 use Rattle.body.specs.Check.{coordinatorRuleAt, coordinatorsRule, hourRuleAt, hoursRule, bodyHeadOf, frontRule, bodyRule}
-use Rattle.theorems.proofs.Alike.{Alike, points, coordinators}
+use Rattle.comparisons.proofs.Alike.{Alike, points, coordinators}
 use Rattle.verdict.proofs.First.{scan-same}
 
 module _ (start : ℕ) (body body′ : List ℕ) (alike : Alike body body′) where

@@ -16,8 +16,8 @@ use Rattle.surcharge.specs.declared.Terms.{Terms}
 use Rattle.amounts.specs.Amounts.{amountAt, priceAnswerAt, priceNeeded, usableRule, priceRule}
 use Rattle.statement.specs.Block.{chargesAt, hourBlock, hoursBlock, block}
 use Rattle.settlement.specs.Settlement.{chargeable, chargeRule, hourRefusal, hoursRefusal}
 use Rattle.theorems.proofs.Demands.{charges-same}
-use Rattle.theorems.proofs.SameAmounts.{SameAmounts, amount-same, on-peak-same, off-peak-same, downward-same, price-rule-same}
+use Rattle.comparisons.proofs.SameAmounts.{SameAmounts, amount-same, on-peak-same, off-peak-same, downward-same, price-rule-same}
 
 -- word by word: the head with its coordinator numbers, the eight numbers of each hour, its prices, its quantities where the price is there, its demands
 pub record Alike (body body′ : List ℕ) : Type 0 where

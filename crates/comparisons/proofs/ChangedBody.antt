@@ -11,8 +11,8 @@ use Rattle.words.specs.Word.{wordAt}
 use Rattle.hour.specs.Layout.{missing, hourWords}
 use Rattle.body.specs.Layout.{hourStart, pointsOf, coordinatorsOf, hourAt, intervalsAt, priceAt, quantityAt}
 use Rattle.words.specs.Bytes.{ChangedAt}
-use Rattle.theorems.specs.Changed.{quantityWord, PriceIsMissing}
-use Rattle.theorems.proofs.Alike.{Alike}
+use Rattle.comparisons.specs.Changed.{quantityWord, PriceIsMissing}
+use Rattle.comparisons.proofs.Alike.{Alike}
 
 module _ (points coordinators : ℕ) where
   earlier : (g h o p : ℕ) → g < h → o < hourWords points coordinators → hourStart points coordinators g + o < hourStart points coordinators h + p

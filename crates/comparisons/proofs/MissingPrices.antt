@@ -15,14 +15,14 @@ use Rattle.surcharge.specs.declared.Terms.{Terms}
 use Rattle.statement.specs.Block.{block}
 use Rattle.settlement.specs.Settlement.{hourRefusal, ownDays, settleBy}
 use Rattle.settlement.specs.Shown.{statementLeftBy}
-use Rattle.theorems.specs.Changed.{quantityWord, PriceIsMissing, withQuantity}
-use Rattle.theorems.specs.Days.{ByNumberAndDays}
-use Rattle.theorems.proofs.Alike.{block-same, rule-same}
-use Rattle.theorems.proofs.AlikeFiles.{settle-same, left-same}
-use Rattle.theorems.proofs.ChangedBody.{changed-alike}
-use Rattle.theorems.proofs.ChangedChecks.{check-same}
-use Rattle.theorems.proofs.ChangedFile.{inside-file, files-alike}
-use Rattle.theorems.proofs.Days.{own-by}
+use Rattle.comparisons.specs.Changed.{quantityWord, PriceIsMissing, withQuantity}
+use Rattle.comparisons.specs.Days.{ByNumberAndDays}
+use Rattle.comparisons.proofs.Alike.{block-same, rule-same}
+use Rattle.comparisons.proofs.AlikeFiles.{settle-same, left-same}
+use Rattle.comparisons.proofs.ChangedBody.{changed-alike}
+use Rattle.comparisons.proofs.ChangedChecks.{check-same}
+use Rattle.comparisons.proofs.ChangedFile.{inside-file, files-alike}
+use Rattle.comparisons.proofs.Days.{own-by}
 
 -- of an area, under any terms: no number of its block, and no refusal of any of its hours
 pub area-unchanged : (body body′ : List ℕ) (h i : ℕ) → PriceIsMissing body h i → ChangedAt (quantityWord body h i) body body′ → (terms : Terms)

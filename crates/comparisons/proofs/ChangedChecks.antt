@@ -21,9 +21,9 @@ use Rattle.dayfile.specs.File.{editionOf, areasOf, startAt, sizeAt, numberBefor
 use Rattle.dayfile.specs.Check.{checkOf, checkWithin, fileHeadOf, entryRuleAt, contentsRule, bodyRuleAt, bodiesRule}
 use Rattle.acceptance.proofs.SoundAccepted.{file-sound}
 use Rattle.words.specs.Bytes.{ChangedAt}
-use Rattle.theorems.specs.Changed.{quantityWord, PriceIsMissing}
-use Rattle.theorems.proofs.AlikeChecks.{body-rule-same}
-use Rattle.theorems.proofs.ChangedFile.{part-length, checked, inside, contents-same, body-is, changed-body, other-body, files-alike}
+use Rattle.comparisons.specs.Changed.{quantityWord, PriceIsMissing}
+use Rattle.comparisons.proofs.AlikeChecks.{body-rule-same}
+use Rattle.comparisons.proofs.ChangedFile.{part-length, checked, inside, contents-same, body-is, changed-body, other-body, files-alike}
 use Rattle.verdict.proofs.First.{scan-same}
 
 module _ (file : List ℕ) (accepted : numberOf (checkOf file) ≡ 0) (k h i : ℕ) (area : k < areasOf file) (gone : PriceIsMissing (bodyAt file k) h i)

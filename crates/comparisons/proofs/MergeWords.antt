@@ -19,8 +19,8 @@ use Rattle.shares.proofs.Merged.{merged-length}
 use Rattle.shares.specs.Shares.{mergedAt}
 use Rattle.exact.proofs.Totals.{total-append}
 use Rattle.settlement.proofs.Places.{few-coordinators}
-use Rattle.theorems.specs.Merge.{Merged, Mergeable, joined, mergedFront, mergedHour, mergedBody}
-use Rattle.theorems.proofs.Joined.{joined-length, joined-at, below-append, below-cons, below-merged, below-joined}
+use Rattle.comparisons.specs.Merge.{Merged, Mergeable, joined, mergedFront, mergedHour, mergedBody}
+use Rattle.comparisons.proofs.Joined.{joined-length, joined-at, below-append, below-cons, below-merged, below-joined}
 
 start-is : (points coordinators h : ℕ) → hourStart points coordinators h ≡ 7 + coordinators + h * hourWords points coordinators
 unfolding hourStart

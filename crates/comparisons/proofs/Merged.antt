@@ -20,12 +20,12 @@ use Rattle.statement.specs.Block.{block, hourBlock, chargesAt}
 use Rattle.settlement.specs.Settlement.{neededTo, daysBy, termsBy, ownDays, settleBy}
 use Rattle.settlement.specs.Shown.{statementLeftBy, hourShown, onPeakShown, offPeakShown, downwardShown, chargesShown}
 use Rattle.settlement.proofs.Shown.{hour-shown, on-peak-shown, off-peak-shown, downward-shown, charges-shown}
-use Rattle.theorems.specs.Days.{ByNumberAndDays}
-use Rattle.theorems.specs.Merge.{Mergeable, MergedFile, merge}
-use Rattle.theorems.proofs.Days.{own-by}
-use Rattle.theorems.proofs.MergeAccepted.{merge-accepted, merge-merges}
-use Rattle.theorems.proofs.MergedBody.{days-same, hour-settled-too, hour-merged}
+use Rattle.comparisons.specs.Days.{ByNumberAndDays}
+use Rattle.comparisons.specs.Merge.{Mergeable, MergedFile, merge}
+use Rattle.comparisons.proofs.Days.{own-by}
+use Rattle.comparisons.proofs.MergeAccepted.{merge-accepted, merge-merges}
+use Rattle.comparisons.proofs.MergedBody.{days-same, hour-settled-too, hour-merged}
 use Rattle.theorems.proofs.SettledExactly.{HourSettled, settled-says, settled-accepts}
 
 -- ---- under any d that goes by the area's number and its own days
 

@@ -15,9 +15,9 @@ use Rattle.settlement.specs.Settlement.{neededTo, numbersNeeded, statementTo, t
 use Rattle.settlement.specs.Settlement.{settleWith, afterWith, daysBy, settleBy}
 use Rattle.settlement.specs.Shown.{statementLeftBy}
 use Rattle.settlement.proofs.Accepted.{rule-same, statement-same}
-use Rattle.theorems.specs.Days.{ByNumberAndDays}
-use Rattle.theorems.proofs.Alike.{Alike, coordinators, days, block-same, hours-rule-same}
+use Rattle.comparisons.specs.Days.{ByNumberAndDays}
+use Rattle.comparisons.proofs.Alike.{Alike, coordinators, days, block-same, hours-rule-same}
 use Rattle.theorems.proofs.FirstIndex.{passes}
 
 pub record AlikeFiles (file file′ : List ℕ) : Type 0 where
   pub areas : areasOf file ≡ areasOf file′

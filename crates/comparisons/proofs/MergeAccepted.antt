@@ -25,10 +25,10 @@ use Rattle.parts.proofs.GoodFile.{whole, small, file-accepted}
 use Rattle.parts.proofs.OwnParts.{areas-count}
 use Rattle.parts.proofs.OwnGood.{own-area, own-good, Replaced, replaced-good}
 use Rattle.settlement.proofs.Accepted.{within}
-use Rattle.theorems.specs.Merge.{Mergeable, MergedFile, mergedBody, mergedArea, merge}
-use Rattle.theorems.proofs.Joined.{below-front, below-back}
-use Rattle.theorems.proofs.MergeWords.{other-length, head-is, built}
-use Rattle.theorems.proofs.MergeSound.{merged-sound}
+use Rattle.comparisons.specs.Merge.{Mergeable, MergedFile, mergedBody, mergedArea, merge}
+use Rattle.comparisons.proofs.Joined.{below-front, below-back}
+use Rattle.comparisons.proofs.MergeWords.{other-length, head-is, built}
+use Rattle.comparisons.proofs.MergeSound.{merged-sound}
 
 map-at : (f : Area → Area) (areas : List Area) (k : ℕ) → k < length areas → areaAt (map f areas) k ≡ f (areaAt areas k)
 map-at f [] k h = absurd (omega arith)

@@ -28,8 +28,8 @@ use Rattle.settlement.specs.Settlement.{neededTo, numbersNeeded, termsBy, ownDa
 use Rattle.settlement.specs.Shown.{statementLeftBy, hourShown}
 use Rattle.settlement.proofs.Accepted.{within}
 use Rattle.settlement.proofs.Shown.{hour-shown}
-use Rattle.theorems.specs.Alone.{AloneFile, alone}
+use Rattle.comparisons.specs.Alone.{AloneFile, alone}
 use Rattle.theorems.proofs.SettledExactly.{HourSettled, settled-says, settled-accepts}
 
 -- ---- of two files that stand so
 

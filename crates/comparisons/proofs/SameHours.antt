@@ -7,8 +7,8 @@ use native.Mathlib.Omega.{arith}
 use Rattle.limits.specs.Ranges.{dayHours}
 use Rattle.words.specs.Word.{wordAt}
 use Rattle.body.specs.Layout.{pointsOf, hourAt, intervalsAt, quantityAt, priceAt}
-use Rattle.theorems.specs.Merge.{SameHours}
-use Rattle.theorems.proofs.SameAmounts.{SameAmounts}
+use Rattle.comparisons.specs.Merge.{SameHours}
+use Rattle.comparisons.proofs.SameAmounts.{SameAmounts}
 
 module _ (body other : List ℕ) (same : SameHours body other) where
   module _ (h m : ℕ) (below : h < dayHours) (inside : m < 12 * pointsOf body) where

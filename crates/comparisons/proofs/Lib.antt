@@ -1,0 +1,17 @@
+pub mod SameAmounts
+pub mod SameHours
+pub mod MergedBody
+pub mod Joined
+pub mod MergeWords
+pub mod MergeSound
+pub mod MergeAccepted
+pub mod Days
+pub mod Merged
+pub mod Alone
+pub mod Alike
+pub mod AlikeFiles
+pub mod AlikeChecks
+pub mod ChangedBody
+pub mod ChangedFile
+pub mod ChangedChecks
+pub mod MissingPrices

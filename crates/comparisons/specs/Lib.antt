@@ -1,0 +1,4 @@
+pub mod Days
+pub mod Merge
+pub mod Alone
+pub mod Changed

@@ -6,9 +6,10 @@ use lib.IntN.{ℤ}
 use lib.ListN.{length, take, drop, replicate}
 use Rattle.verdict.specs.declared.Verdict.{Verdict}
 use Rattle.limits.specs.Ranges.{mostCoordinators}
+use Rattle.columns.specs.Columns.{columnsRule, chargesAfter}
 use Rattle.sharing.specs.declared.Row.{Row}
 use Rattle.sharing.specs.declared.Table.{Table}
-use Rattle.sharing.specs.Rows.{coordinatorColumn, demandColumn, rowCountRule, columnsRule, chargesAfter}
+use Rattle.sharing.specs.Rows.{coordinatorColumn, demandColumn, rowCountRule}
 
 unfoldable pub emptyColumn : List ℕ
 emptyColumn = replicate mostCoordinators 0

@@ -14,10 +14,10 @@ use Rattle.verdict.proofs.First.{kept}
 use Rattle.limits.specs.Ranges.{mostCoordinators}
 use Rattle.shares.specs.Shares.{shares}
 use Rattle.shares.proofs.Length.{shares-length}
+use Rattle.columns.proofs.Accepted.{Accepted, columns-accepted}
 use Rattle.sharing.specs.declared.Row.{Row}
 use Rattle.sharing.specs.Rows.{coordinatorColumn, demandColumn, shareOf}
 use Rattle.sharing_theorems.specs.Charged.{chargesLeft, rowCharges}
-use Rattle.sharing.proofs.Accepted.{Accepted, columns-accepted}
 
 module _ (amount : ℤ) (rows : List Row) where
   abbrev demands : List ℕ

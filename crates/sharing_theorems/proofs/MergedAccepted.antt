@@ -8,7 +8,6 @@ use lib.Dec.{eqb, leb, ltb}
 use lib.IntN.{ℤ, natAbs}
 use lib.ListN.{length, getD, take, drop, length-map, take-append-drop}
 use borrow.Author.Tests.{lt-ltb, le-leb, leb-true, ltb-true}
-use Rattle.verdict.specs.declared.Verdict.{Verdict}
 use Rattle.verdict.specs.Verdict.{numberOf}
 use Rattle.verdict.specs.First.{_orElse_}
 use Rattle.verdict.proofs.First.{kept, both, or-first, or-second, scan-each, all-accept, seq-next}
@@ -17,10 +16,11 @@ use Rattle.exact.proofs.Totals.{total-append, total-next}
 use Rattle.limits.specs.Ranges.{mostCoordinators, mostDemand, mostAmount, largestNumber}
 use Rattle.shares.specs.Shares.{mergedAt}
 use Rattle.shares.proofs.Merged.{merged-length, total-merged}
+use Rattle.columns.specs.Columns.{rowRule, coordinatorAbove, rowRuleAt, rowsRule, chargesRule, columnsRule}
+use Rattle.columns.proofs.Accepted.{rows-total}
 use Rattle.sharing.specs.declared.Row.{Row}
-use Rattle.sharing.specs.Rows.{coordinatorColumn, demandColumn, rowRule, coordinatorAbove, rowRuleAt, rowsRule, chargesRule, columnsRule, shareOf}
+use Rattle.sharing.specs.Rows.{coordinatorColumn, demandColumn, shareOf}
 use Rattle.sharing_theorems.specs.Charged.{mergedRow, mergedRows, Mergeable}
-use Rattle.sharing.proofs.Accepted.{rows-total}
 use Rattle.sharing_theorems.proofs.Merged.{demands-merged, coordinators-merged}
 
 -- ---- numbers that rise: each is above the one before it, the first above `before`, and none is above the largest

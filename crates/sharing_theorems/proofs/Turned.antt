@@ -7,8 +7,9 @@ use lib.ListN.{length}
 use Rattle.verdict.specs.Verdict.{numberOf}
 use Rattle.exact.proofs.Magnitude.{abs-neg}
 use Rattle.shares.proofs.Turned.{turned}
+use Rattle.columns.specs.Columns.{columnsRule}
 use Rattle.sharing.specs.declared.Row.{Row}
-use Rattle.sharing.specs.Rows.{demandColumn, columnsRule, shareOf}
+use Rattle.sharing.specs.Rows.{demandColumn, shareOf}
 use Rattle.sharing_theorems.specs.Charged.{rowCharges}
 use Rattle.sharing_theorems.proofs.Charges.{charged}
 

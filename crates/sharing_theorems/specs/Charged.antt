@@ -6,8 +6,9 @@ use lib.ListN.{length, getD, take}
 use Rattle.exact.specs.Total.{total}
 use Rattle.limits.specs.Ranges.{largestNumber}
 use Rattle.shares.specs.Shares.{mergedAt}
+use Rattle.columns.specs.Columns.{coordinatorAbove, chargesAfter}
 use Rattle.sharing.specs.declared.Row.{Row}
-use Rattle.sharing.specs.Rows.{coordinatorColumn, demandColumn, coordinatorAbove, shareOf, chargesAfter}
+use Rattle.sharing.specs.Rows.{coordinatorColumn, demandColumn, shareOf}
 
 -- the lent charges after the call, as `SharedRows` promises them
 abbrev pub chargesLeft : ℤ → List Row → List ℤ → List ℤ

@@ -8,10 +8,10 @@ use mir.Syntax.{w64}
 use mir.ValLaws.{toZ-ofZ}
 use Rattle.verdict.specs.Verdict.{numberOf}
 use Rattle.shares.proofs.Sharing.{share-fits}
-use Rattle.sharing.specs.Rows.{columnsRule}
-use Rattle.sharing.proofs.Accepted.{Accepted, columns-accepted}
-use Rattle.sharing.proofs.share_columns.Statement.{statement}
-use Rattle.sharing.proofs.share_columns.Tie as tie
+use Rattle.columns.specs.Columns.{columnsRule}
+use Rattle.columns.proofs.Accepted.{Accepted, columns-accepted}
+use Rattle.columns.proofs.share_columns.Statement.{statement}
+use Rattle.columns.proofs.share_columns.Tie as tie
 
 -- the check's answer, over the amount itself
 checked : (c : tie.After-check-columns) → let s = c .before .before .before .args in

@@ -20,7 +20,7 @@ use Rattle.limits.specs.Ranges.{mostDemand, mostAmount}
 use Rattle.hour.specs.Kept.{DemandKept}
 use Rattle.hour.proofs.Rules.{demand-kept}
 use Rattle.shares.proofs.SomeDemand.{shareable-when}
-use Rattle.sharing.specs.Rows.{rowRuleAt, rowsRule, columnsRule}
+use Rattle.columns.specs.Columns.{rowRuleAt, rowsRule, columnsRule}
 
 pub rows-total : (coordinators demands : List ℕ) → numberOf (rowsRule coordinators demands) ≡ 0 → total demands ≤ mostDemand
 unfolding rowsRule rowRuleAt total

@@ -1,8 +1,8 @@
 use borrow.Author.Needs.{needs}
 use mathlib.Core.Path.{refl, sym, _∙_}
 use Rattle.verdict.proofs.First.{seq-next, seq-stop}
-use Rattle.sharing.proofs.check_row.Statement.{statement}
-use Rattle.sharing.proofs.check_row.Tie as tie
+use Rattle.columns.proofs.check_row.Statement.{statement}
+use Rattle.columns.proofs.check_row.Tie as tie
 
 returns : tie.Need-returns
 returns c = seq-stop _ _ _ _ _ refl (c .before .before .coordinator .ensures) (c .before .number .ensures) (c .if1 .taken)

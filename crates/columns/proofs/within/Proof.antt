@@ -1,8 +1,8 @@
 use borrow.Author.Needs.{needs}
 use mir.Syntax.{w64}
 use mir.ValLaws.{toZ-ofZ}
-use Rattle.sharing.proofs.within.Statement.{statement}
-use Rattle.sharing.proofs.within.Tie as tie
+use Rattle.columns.proofs.within.Statement.{statement}
+use Rattle.columns.proofs.within.Tie as tie
 
 returns : tie.Need-returns
 returns c = simp (c .absolute .ensures, toZ-ofZ w64 _ (c .before .fits .amount))

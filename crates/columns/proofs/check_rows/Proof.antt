@@ -13,9 +13,9 @@ use Rattle.exact.specs.Total.{total}
 use Rattle.exact.proofs.Totals.{total-next}
 use Rattle.limits.specs.Ranges.{mostDemand}
 use Rattle.hour.proofs.Rules.{demand-kept}
-use Rattle.sharing.specs.Rows.{coordinatorAbove, rowRuleAt, rowsRule}
-use Rattle.sharing.proofs.check_rows.Statement.{statement}
-use Rattle.sharing.proofs.check_rows.Tie as tie
+use Rattle.columns.specs.Columns.{coordinatorAbove, rowRuleAt, rowsRule}
+use Rattle.columns.proofs.check_rows.Statement.{statement}
+use Rattle.columns.proofs.check_rows.Tie as tie
 
 abbrev Inv-loop : tie.InvT-loop
 Inv-loop coordinators demands before₀ running₀ i₀ before running i =

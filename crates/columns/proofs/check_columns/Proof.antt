@@ -13,10 +13,10 @@ use Rattle.verdict.specs.First.{_orElse_}
 use Rattle.verdict.proofs.First.{seq-next, seq-stop}
 use Rattle.exact.specs.Total.{total}
 use Rattle.limits.specs.Ranges.{mostAmount}
-use Rattle.sharing.specs.Rows.{rowsRule, chargesRule, columnsRule}
-use Rattle.sharing.proofs.Accepted.{rows-total}
-use Rattle.sharing.proofs.check_columns.Statement.{statement}
-use Rattle.sharing.proofs.check_columns.Tie as tie
+use Rattle.columns.specs.Columns.{rowsRule, chargesRule, columnsRule}
+use Rattle.columns.proofs.Accepted.{rows-total}
+use Rattle.columns.proofs.check_columns.Statement.{statement}
+use Rattle.columns.proofs.check_columns.Tie as tie
 
 -- what `within` told, over the amount itself
 known : (c : tie.After-within) → c .within .result ≡ leb (natAbs (c .before .before .before .args .amount)) mostAmount

@@ -7,8 +7,8 @@ use mathlib.Core.Bool.{_||_}
 use mir.Syntax.{w64}
 use mir.ValLaws.{toZ-ofZ}
 use Rattle.verdict.proofs.Tests.{tests}
-use Rattle.sharing.proofs.check_charges.Statement.{statement}
-use Rattle.sharing.proofs.check_charges.Tie as tie
+use Rattle.columns.proofs.check_charges.Statement.{statement}
+use Rattle.columns.proofs.check_charges.Tie as tie
 
 -- what `shareable` told, over the amount itself
 known : (c : tie.After-shareable) → let s = c .before .args in c .shareable .result ≡ (eqb (natAbs (s .amount)) 0 || ltb 0 (s .whole))

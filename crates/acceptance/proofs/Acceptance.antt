@@ -20,7 +20,7 @@ use Rattle.verdict.specs.Verdict.{numberOf, placeOf}
 use Rattle.verdict.specs.First.{_orElse_}
 use Rattle.verdict.proofs.First.{both}
 use Rattle.body.proofs.Kept.{kept-by}
-use Rattle.dayfile.specs.File.{editionOf, startAt}
+use Rattle.contents.specs.File.{editionOf, startAt}
 use Rattle.dayfile.specs.Check.{fileHeadOf, contentsRule, bodiesRule, checkWithin, checkOf}
 use Rattle.acceptance.specs.Numbers.{numberDue}
 use Rattle.acceptance.specs.WellFormed.{FileKept, FirstBroken, LengthKept, WellFormed}

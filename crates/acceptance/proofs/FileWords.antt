@@ -18,7 +18,8 @@ use Rattle.verdict.specs.declared.Verdict.the-variants.{Accepted, BadEdition, B
 use Rattle.verdict.specs.Verdict.{numberOf}
 use Rattle.verdict.specs.First.{_orElse_}
 use Rattle.verdict.proofs.First.{both}
-use Rattle.dayfile.specs.File.{numberAt, startAt, sizeAt, numberBefore, dueAt, bodyAt, cisoBefore}
+use Rattle.contents.specs.File.{numberAt, startAt, sizeAt, numberBefore, dueAt, bodyAt}
+use Rattle.dayfile.specs.Ciso.{cisoBefore}
 use Rattle.dayfile.specs.Check.{fileHeadRule, fileHeadOf, entryRule, entryRuleAt, contentsRule, bodyRuleAt, bodiesRule}
 use Rattle.dayfile.proofs.Entries.{Entry, entry, within}
 use Rattle.dayfile.proofs.Facts.{head-kept, known}

@@ -1,18 +1,18 @@
 -- The lookup hands back the part that the contents entry of the area names, and nothing where there is no such entry or the check refuses the file.
 use Prim.Native.Nat.{ℕ, zero, suc, _+_, _≤_, _<_}
-use mathlib.Core.Bool.{Bool, true, false}
 use mathlib.Core.List.{List}
 use mathlib.Core.Logic.{⊎-elim, dite}
-use mathlib.Core.Path.{_≡_, refl, sym, _∙_}
+use mathlib.Core.Path.{_≡_, refl}
 use native.Mathlib.Decide.{ℕ-discrete}
 use native.Mathlib.Nat.{eq-or-lt-of-le, le-of-suc-le-suc}
 use native.Mathlib.Omega.{arith}
 use borrow.Author.Tests.{eq-eqb, ne-eqb}
 use Rattle.verdict.specs.Verdict.{numberOf}
 use Rattle.limits.specs.Editions.{limitsOf}
-use Rattle.dayfile.specs.File.{editionOf, areasOf, numberAt, numberBefore}
+use Rattle.contents.specs.File.{editionOf, areasOf, numberAt, numberBefore}
+use Rattle.contents.specs.BodyPart.{bodyPart}
 use Rattle.dayfile.specs.Check.{checkOf, checkWithin}
-use Rattle.dayfile.specs.Lookup.{nothing, bodyPart, partFrom, lookupOf}
+use Rattle.dayfile.specs.Lookup.{nothing, partFrom, lookupOf}
 use Rattle.dayfile.proofs.Facts.{file-entry}
 use Rattle.acceptance.specs.LookedUp.{LookedUp}
 

@@ -33,7 +33,8 @@ use Rattle.body.specs.Check.{mostOfKind, bodyHeadRule, coordinatorCountRule, bo
 use Rattle.body.specs.Check.{hourRuleAt, hoursRule, bodyRule}
 use Rattle.body.proofs.HourPlaces.{hour-room}
 use Rattle.body.proofs.Rules.{front-size}
-use Rattle.dayfile.specs.File.{areasOf, numberAt, startAt, sizeAt, numberBefore, dueAt, bodyAt, cisoBefore}
+use Rattle.contents.specs.File.{areasOf, numberAt, startAt, sizeAt, numberBefore, dueAt, bodyAt}
+use Rattle.dayfile.specs.Ciso.{cisoBefore}
 use Rattle.dayfile.specs.Check.{fileHeadRule, fileHeadOf, entryRule, entryRuleAt, contentsRule, bodyRuleAt, bodiesRule}
 use Rattle.dayfile.proofs.Entries.{entry}
 use Rattle.acceptance.specs.Numbers.{hourNumber, countNumber, bodyNumber, headNumber, numberFrom, numberDue}

@@ -13,7 +13,8 @@ use Rattle.body.specs.Layout.{kindOf}
 use Rattle.body.specs.Check.{bodyRule}
 use Rattle.body.specs.Kept.{BodyKept, Always, Sound}
 use Rattle.body.proofs.Kept.{kept-by, always}
-use Rattle.dayfile.specs.File.{numberAt, startAt, sizeAt, numberBefore, dueAt, bodyAt, cisoBefore}
+use Rattle.contents.specs.File.{numberAt, startAt, sizeAt, numberBefore, dueAt, bodyAt}
+use Rattle.dayfile.specs.Ciso.{cisoBefore}
 use Rattle.dayfile.specs.Check.{checkWithin}
 use Rattle.dayfile.proofs.Entries.{Entry}
 use Rattle.dayfile.proofs.Facts.{Length, Head, file-entry, file-body, body-length}

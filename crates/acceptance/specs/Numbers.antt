@@ -9,7 +9,7 @@ use Rattle.limits.specs.Ranges.{mostDemand}
 use Rattle.hour.specs.Layout.{hourWords}
 use Rattle.body.specs.Layout.{kindOf, pointsOf, coordinatorsOf}
 use Rattle.body.specs.Check.{mostOfKind}
-use Rattle.dayfile.specs.File.{areasOf, startAt, sizeAt, bodyAt}
+use Rattle.contents.specs.File.{areasOf, startAt, sizeAt, bodyAt}
 
 -- word r of an hour with L load points: eight numbers and 24L interval words, then the demands
 abbrev pub hourNumber : (points r word : ℕ) → ℕ

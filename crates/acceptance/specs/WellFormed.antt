@@ -11,7 +11,8 @@ use Rattle.limits.specs.Ranges.{largestNumber, leastBodyWords, peakWord}
 use Rattle.limits.specs.Editions.{limitsOf, KnownEdition, WithinBytes}
 use Rattle.calendar.specs.Date.{realDate}
 use Rattle.body.specs.Kept.{BodyKept}
-use Rattle.dayfile.specs.File.{editionOf, dayOf, areasOf, peakOf, numberAt, startAt, sizeAt, numberBefore, dueAt, bodyAt, cisoBefore}
+use Rattle.contents.specs.File.{editionOf, dayOf, areasOf, peakOf, numberAt, startAt, sizeAt, numberBefore, dueAt, bodyAt}
+use Rattle.dayfile.specs.Ciso.{cisoBefore}
 
 -- Every word of a file that stands before word p keeps its rule.
 pub record FileKept (limits : Limits) (file : List ℕ) (p : ℕ) : Type 0 where

@@ -8,7 +8,7 @@ use lib.IntN.{ℤ}
 use lib.ListN.{length}
 use Rattle.verdict.specs.Verdict.{numberOf}
 use Rattle.verdict.proofs.First.{scan-same}
-use Rattle.dayfile.specs.File.{areasOf, peakOf, numberAt, startAt, bodyAt}
+use Rattle.contents.specs.File.{areasOf, peakOf, numberAt, startAt, bodyAt}
 use Rattle.dayfile.specs.Check.{checkOf}
 use Rattle.statement.specs.Block.{block}
 use Rattle.settlement.specs.Settlement.{neededTo, numbersNeeded, statementTo, termsAt, hoursRefusal, areaRefusal, areasRefusal, acceptedRule}

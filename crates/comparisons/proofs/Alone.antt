@@ -13,13 +13,13 @@ use Rattle.limits.proofs.Editions.{plain}
 use Rattle.verdict.specs.Verdict.{numberOf}
 use Rattle.body.specs.Layout.{coordinatorsOf}
 use Rattle.body.proofs.Kept.{always}
-use Rattle.dayfile.specs.File.{editionOf, dayOf, areasOf, peakOf, bodyAt}
+use Rattle.contents.specs.File.{editionOf, dayOf, areasOf, peakOf, bodyAt}
+use Rattle.contents.specs.Parts.{Area, areaOf, frontOf, wordsTo}
+use Rattle.contents.proofs.Parts.{peak-there, count-there, number-there, body-is}
 use Rattle.dayfile.specs.Check.{checkOf, checkWithin}
-use Rattle.dayfile.specs.Parts.{Area, areaOf, frontOf, wordsTo}
 use Rattle.dayfile.proofs.Facts.{file-length, file-head, file-entry, body-length}
 use Rattle.acceptance.proofs.SoundAccepted.{file-sound}
 use Rattle.parts.specs.Good.{numberTo, cisoTo, GoodArea, Good}
-use Rattle.dayfile.proofs.Parts.{peak-there, count-there, number-there, body-is}
 use Rattle.parts.proofs.GoodFile.{whole, small, file-accepted}
 use Rattle.parts.proofs.OwnParts.{size-is}
 use Rattle.parts.proofs.OwnGood.{own-words}

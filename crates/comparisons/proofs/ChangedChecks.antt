@@ -17,7 +17,8 @@ use Rattle.verdict.specs.Verdict.{numberOf}
 use Rattle.body.specs.Layout.{pointsOf, intervalsAt, quantityAt}
 use Rattle.body.specs.Check.{bodyRule}
 use Rattle.body.proofs.Kept.{always}
-use Rattle.dayfile.specs.File.{editionOf, areasOf, startAt, sizeAt, numberBefore, dueAt, bodyAt, cisoBefore}
+use Rattle.contents.specs.File.{editionOf, areasOf, startAt, sizeAt, numberBefore, dueAt, bodyAt}
+use Rattle.dayfile.specs.Ciso.{cisoBefore}
 use Rattle.dayfile.specs.Check.{checkOf, checkWithin, fileHeadOf, entryRuleAt, contentsRule, bodyRuleAt, bodiesRule}
 use Rattle.acceptance.proofs.SoundAccepted.{file-sound}
 use Rattle.words.specs.Bytes.{ChangedAt}

@@ -13,7 +13,7 @@ use Rattle.words.specs.Word.{wordAt}
 use Rattle.words.proofs.Part.{word-part}
 use Rattle.verdict.specs.Verdict.{numberOf}
 use Rattle.body.proofs.Kept.{hour-inside}
-use Rattle.dayfile.specs.File.{editionOf, areasOf, startAt, sizeAt, dueAt, bodyAt}
+use Rattle.contents.specs.File.{editionOf, areasOf, startAt, sizeAt, dueAt, bodyAt}
 use Rattle.dayfile.specs.Check.{checkOf, checkWithin}
 use Rattle.acceptance.proofs.SoundAccepted.{file-sound}
 use Rattle.dayfile.proofs.Facts.{file-entry, body-length}

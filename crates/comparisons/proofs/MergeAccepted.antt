@@ -14,13 +14,13 @@ use Rattle.verdict.specs.Verdict.{numberOf}
 use Rattle.body.specs.Layout.{kindOf}
 use Rattle.body.specs.Kept.{Sound}
 use Rattle.body.proofs.Kept.{always, sound-size}
-use Rattle.dayfile.specs.File.{editionOf, dayOf, peakOf, areasOf, numberAt, startAt, sizeAt, bodyAt}
+use Rattle.contents.specs.File.{editionOf, dayOf, peakOf, areasOf, numberAt, startAt, sizeAt, bodyAt}
+use Rattle.contents.specs.Parts.{Area, areaOf, frontOf, partsOf, areaAt}
+use Rattle.contents.proofs.Parts.{peak-there, count-there, number-there, body-is}
 use Rattle.dayfile.specs.Check.{checkOf, checkWithin}
 use Rattle.acceptance.proofs.SoundAccepted.{file-sound}
 use Rattle.words.specs.Bytes.{Below}
-use Rattle.dayfile.specs.Parts.{Area, areaOf, frontOf, partsOf, areaAt}
 use Rattle.parts.specs.Good.{Good}
-use Rattle.dayfile.proofs.Parts.{peak-there, count-there, number-there, body-is}
 use Rattle.parts.proofs.GoodFile.{whole, small, file-accepted}
 use Rattle.parts.proofs.OwnParts.{areas-count}
 use Rattle.parts.proofs.OwnGood.{own-area, own-good, Replaced, replaced-good}

@@ -12,7 +12,7 @@ use Rattle.words.specs.Bytes.{Below}
 use Rattle.limits.specs.Ranges.{dayHours}
 use Rattle.verdict.specs.Verdict.{numberOf}
 use Rattle.body.specs.Layout.{kindOf, coordinatorsOf}
-use Rattle.dayfile.specs.File.{areasOf, numberAt, bodyAt}
+use Rattle.contents.specs.File.{areasOf, numberAt, bodyAt}
 use Rattle.dayfile.specs.Check.{checkOf}
 use Rattle.shares.specs.Shares.{sum, mergedAt}
 use Rattle.amounts.specs.Amounts.{onPeakAmount, offPeakAmount, downwardAmount}

@@ -9,7 +9,7 @@ use Rattle.words.specs.Bytes.{ChangedAt}
 use Rattle.words.proofs.WithWord.{with-changed, with-word}
 use Rattle.limits.specs.Ranges.{dayHours, mostQuantity}
 use Rattle.verdict.specs.Verdict.{numberOf}
-use Rattle.dayfile.specs.File.{areasOf, startAt, bodyAt}
+use Rattle.contents.specs.File.{areasOf, startAt, bodyAt}
 use Rattle.dayfile.specs.Check.{checkOf}
 use Rattle.surcharge.specs.declared.Terms.{Terms}
 use Rattle.statement.specs.Block.{block}

@@ -2,8 +2,8 @@
 use Prim.Native.Nat.{ℕ}
 use mathlib.Core.List.{List, [], _∷_}
 use mathlib.Core.Path.{_≡_}
-use Rattle.dayfile.specs.File.{editionOf, dayOf, areasOf, peakOf, numberAt, bodyAt}
-use Rattle.dayfile.specs.Parts.{fileOf, areaOf}
+use Rattle.contents.specs.File.{editionOf, dayOf, areasOf, peakOf, numberAt, bodyAt}
+use Rattle.contents.specs.Parts.{fileOf, areaOf}
 
 -- two files with the same peak hours, of which the other has area k of the first alone, with its number and its body
 pub record AloneFile (k : ℕ) (file other : List ℕ) : Type 0 where

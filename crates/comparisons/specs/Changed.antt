@@ -7,7 +7,7 @@ use Rattle.words.specs.Bytes.{withWord}
 use Rattle.limits.specs.Ranges.{dayHours}
 use Rattle.hour.specs.Layout.{missing}
 use Rattle.body.specs.Layout.{pointsOf, intervalsAt, priceAt}
-use Rattle.dayfile.specs.File.{startAt, bodyAt}
+use Rattle.contents.specs.File.{startAt, bodyAt}
 
 module _ (body : List ℕ) (h i : ℕ) where
   -- the word of the quantity of interval i of hour h

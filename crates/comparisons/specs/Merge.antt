@@ -7,9 +7,9 @@ use lib.Dec.{eqb}
 use Rattle.words.specs.Word.{wordAt}
 use Rattle.limits.specs.Ranges.{dayHours, largestNumber}
 use Rattle.body.specs.Layout.{kindOf, pointsOf, coordinatorsOf, coordinatorAt, coordinatorBefore, hourAt, demandsOf}
-use Rattle.dayfile.specs.File.{editionOf, dayOf, peakOf, areasOf, numberAt, bodyAt}
+use Rattle.contents.specs.File.{editionOf, dayOf, peakOf, areasOf, numberAt, bodyAt}
+use Rattle.contents.specs.Parts.{Area, fileOf, partsOf}
 use Rattle.words.specs.Bytes.{wordsBytes, wordsFrom}
-use Rattle.dayfile.specs.Parts.{Area, fileOf, partsOf}
 use Rattle.exact.specs.Total.{total}
 use Rattle.shares.specs.Shares.{mergedAt}
 

@@ -10,7 +10,7 @@ use borrow.Author.Tests.{leb-true, ltb-true, eqb-true, eq-eqb}
 use Rattle.limits.specs.Ranges.{largestNumber, leastBodyWords}
 use Rattle.verdict.specs.Verdict.{numberOf}
 use Rattle.verdict.proofs.First.{kept, both, scan-each}
-use Rattle.dayfile.specs.File.{numberAt, startAt, sizeAt, numberBefore, dueAt}
+use Rattle.contents.specs.File.{numberAt, startAt, sizeAt, numberBefore, dueAt}
 use Rattle.dayfile.specs.Check.{entryRule, entryRuleAt, contentsRule}
 
 -- the end of a body lies within the file, and that of the last with the file

@@ -21,7 +21,8 @@ use Rattle.exact.proofs.Lending.{part-length}
 use Rattle.body.specs.Layout.{kindOf}
 use Rattle.body.specs.Check.{bodyRule}
 use Rattle.body.proofs.Rules.{one-ciso}
-use Rattle.dayfile.specs.File.{numberAt, startAt, sizeAt, numberBefore, dueAt, bodyAt, cisoBefore}
+use Rattle.contents.specs.File.{numberAt, startAt, sizeAt, numberBefore, dueAt, bodyAt}
+use Rattle.dayfile.specs.Ciso.{cisoBefore}
 use Rattle.dayfile.specs.Check.{fileHeadRule, fileHeadOf, contentsRule, bodiesRule, bodyRuleAt, checkWithin}
 use Rattle.dayfile.proofs.Entries.{Entry, entry}
 

@@ -1,4 +1,3 @@
 pub mod Entries
 pub mod Facts
 pub mod Lookup
-pub mod Parts

@@ -13,7 +13,8 @@ use Rattle.verdict.specs.declared.Verdict.{Verdict}
 use Rattle.verdict.specs.declared.Verdict.the-variants.{Accepted, BadLength, BadEdition, BadAreaCount, BadDate, BadPeakHours, BadContents}
 use Rattle.verdict.specs.First.{rule_else_then_, _orElse_, scan}
 use Rattle.body.specs.Check.{bodyRule}
-use Rattle.dayfile.specs.File.{editionOf, numberAt, startAt, sizeAt, numberBefore, dueAt, bodyAt, cisoBefore}
+use Rattle.contents.specs.File.{editionOf, numberAt, startAt, sizeAt, numberBefore, dueAt, bodyAt}
+use Rattle.dayfile.specs.Ciso.{cisoBefore}
 
 -- the four head words of a file of `size` words: edition, trading day, number of areas, peak hours
 unfoldable pub fileHeadRule : (areas size edition day n peak : ℕ) → Verdict

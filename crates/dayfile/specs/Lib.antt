@@ -1,4 +1,3 @@
-pub mod File
+pub mod Ciso
 pub mod Check
 pub mod Lookup
-pub mod Parts

@@ -6,9 +6,9 @@ ghost use Prim.Native.Nat.{_+_, _*_, _≤_, _<_, _^_};
 ghost use lib.ListN.{length};
 ghost use Rattle.words.specs.Word.{wordAt};
 ghost use Rattle.verdict.specs.Verdict.{numberOf};
-ghost use Rattle.dayfile.specs.File.{startAt, sizeAt};
+ghost use Rattle.contents.specs.BodyPart.{HandsBack};
 ghost use Rattle.dayfile.specs.Check.{fileHeadRule, fileHeadOf, entryRule, contentsRule, bodiesRule, checkWithin, checkOf};
-ghost use Rattle.dayfile.specs.Lookup.{bodyPart, partFrom, lookupOf, HandsBack};
+ghost use Rattle.dayfile.specs.Lookup.{partFrom, lookupOf};
 
 // The four head words, in a file of `size` words.
 fn head_words(areas: u32, size: usize, edition: u32, day: u32, n: u32, peak: u32) -> Verdict
@@ -118,17 +118,6 @@ fn contents(most: usize, file: &[u8], n: usize) -> Verdict
     Verdict::Accepted
 }
 
-// The bytes of body k, a part of the file.
-pub fn body_at(file: &[u8], k: usize) -> &[u8]
-    requires { ⌜ (16 + 12 * k + 12 ≤ length (now file)) × (4 * startAt (now file) k + 4 * sizeAt (now file) k ≤ length (now file)) ⌝ }
-    ensures { λ r. ⌜ HandsBack (file .entry) (bodyPart (now (file .entry)) k) r ⌝ }
-{
-    let at = 4 + 3 * k;
-    let from = 4 * (words::word(file, at + 1) as usize);
-    let to = from + 4 * (words::word(file, at + 2) as usize);
-    &file[from..to]
-}
-
 // The bodies of n entries whose contents are accepted, each handed on as its part of the file.
 fn bodies(limits: Limits, file: &[u8], n: usize) -> Verdict
     requires { ⌜ (1 ≤ n) × ((16 + 12 * n ≤ length (now file)) × (numberOf (contentsRule (limits .words) (now file) n) ≡ 0)) ⌝ }
@@ -138,7 +127,7 @@ fn bodies(limits: Limits, file: &[u8], n: usize) -> Verdict
     let mut area: usize = 0;
     while area < n {
         let start = words::word(file, 4 + 3 * area + 1) as usize;
-        let body = body_at(file, area);
+        let body = contents::body_at(file, area);
         let v = body::check(limits, ciso, start, body);
         if verdict::number(v) != 0 {
             return v;
@@ -191,7 +180,7 @@ fn find(file: &[u8], area: u32) -> &[u8]
     let mut k: usize = 0;
     while k < n {
         if words::word(file, 4 + 3 * k) == area {
-            return body_at(file, k);
+            return contents::body_at(file, k);
         }
         k += 1;
     }

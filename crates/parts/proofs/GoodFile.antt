@@ -21,16 +21,17 @@ use Rattle.verdict.specs.Verdict.{numberOf}
 use Rattle.verdict.proofs.First.{both}
 use Rattle.body.specs.Layout.{kindOf}
 use Rattle.body.specs.Kept.{Sound}
-use Rattle.dayfile.specs.File.{numberAt, startAt, sizeAt, bodyAt, numberBefore, dueAt, cisoBefore}
+use Rattle.contents.specs.File.{numberAt, startAt, sizeAt, bodyAt, numberBefore, dueAt}
+use Rattle.contents.specs.Parts.{Area, sizeOf, contentsOf, frontOf, fileOf, areaAt, wordsTo}
+use Rattle.contents.proofs.Parts.{words-shift, Whole, edition-there, day-there, count-there, peak-there, number-there, start-there, size-there}
+use Rattle.contents.proofs.Parts.{body-is, file-long}
+use Rattle.dayfile.specs.Ciso.{cisoBefore}
 use Rattle.dayfile.specs.Check.{checkOf, checkWithin}
 use Rattle.dayfile.proofs.Entries.{Entry}
 use Rattle.dayfile.proofs.Facts.{Head, Length}
 use Rattle.acceptance.proofs.SoundAccepted.{file-accepts}
 use Rattle.words.specs.Bytes.{Below}
-use Rattle.dayfile.specs.Parts.{Area, sizeOf, contentsOf, frontOf, fileOf, areaAt, wordsTo}
 use Rattle.parts.specs.Good.{cisoTo, numberTo, Good}
-use Rattle.dayfile.proofs.Parts.{words-shift, Whole, edition-there, day-there, count-there, peak-there, number-there, start-there, size-there}
-use Rattle.dayfile.proofs.Parts.{body-is, file-long}
 
 words-within : (areas : List Area) (k n : ℕ) → k < n → wordsTo areas k + sizeOf (areaAt areas k) ≤ wordsTo areas n
 unfolding wordsTo

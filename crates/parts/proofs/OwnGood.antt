@@ -10,11 +10,12 @@ use Rattle.limits.specs.Ranges.{leastBodyWords}
 use Rattle.verdict.specs.Verdict.{numberOf}
 use Rattle.body.specs.Layout.{kindOf}
 use Rattle.body.specs.Kept.{Sound}
-use Rattle.dayfile.specs.File.{editionOf, dayOf, areasOf, peakOf, numberBefore, dueAt, cisoBefore}
+use Rattle.contents.specs.File.{editionOf, dayOf, areasOf, peakOf, numberBefore, dueAt}
+use Rattle.contents.specs.Parts.{Area, sizeOf, areaOf, areasFrom, partsOf, areaAt, wordsTo}
+use Rattle.dayfile.specs.Ciso.{cisoBefore}
 use Rattle.dayfile.specs.Check.{checkWithin}
 use Rattle.acceptance.proofs.SoundAccepted.{file-sound}
 use Rattle.dayfile.proofs.Facts.{file-length, file-head, file-entry, file-one-ciso, body-length}
-use Rattle.dayfile.specs.Parts.{Area, sizeOf, areaOf, areasFrom, partsOf, areaAt, wordsTo}
 use Rattle.parts.specs.Good.{cisoTo, numberTo, GoodArea, Good}
 use Rattle.parts.proofs.OwnParts.{areas-count, size-is}
 

@@ -8,12 +8,12 @@ use lib.Seq.{drop-drop}
 use Rattle.words.specs.Word.{wordAt}
 use Rattle.limits.specs.declared.Limits.{Limits}
 use Rattle.verdict.specs.Verdict.{numberOf}
-use Rattle.dayfile.specs.File.{editionOf, dayOf, areasOf, peakOf, numberAt, startAt, sizeAt, dueAt, bodyAt}
+use Rattle.contents.specs.File.{editionOf, dayOf, areasOf, peakOf, numberAt, startAt, sizeAt, dueAt, bodyAt}
+use Rattle.contents.specs.Parts.{sizeOf, contentsOf, bodiesOf, frontOf, fileOf, areaOf, areasFrom, partsOf}
 use Rattle.dayfile.specs.Check.{checkWithin}
 use Rattle.dayfile.proofs.Facts.{file-length, file-head, file-entry, body-length}
 use Rattle.words.specs.Bytes.{wordsBytes, wordsFrom, Below}
 use Rattle.words.proofs.Bytes.{words-bytes}
-use Rattle.dayfile.specs.Parts.{sizeOf, contentsOf, bodiesOf, frontOf, fileOf, areaOf, areasFrom, partsOf}
 
 module _ (limits : Limits) (file : List ℕ) (accepted : numberOf (checkWithin limits file) ≡ 0) where
   abbrev n : ℕ

@@ -11,7 +11,7 @@ use Rattle.limits.specs.Editions.{KnownEdition, WithinBytes}
 use Rattle.calendar.specs.Date.{realDate}
 use Rattle.body.specs.Layout.{kindOf}
 use Rattle.body.specs.Kept.{Sound}
-use Rattle.dayfile.specs.Parts.{Area, sizeOf, areaAt, wordsTo}
+use Rattle.contents.specs.Parts.{Area, sizeOf, areaAt, wordsTo}
 
 module _ (areas : List Area) where
   -- how many of the areas before area k are CISO

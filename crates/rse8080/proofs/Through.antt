@@ -10,7 +10,7 @@ use lib.Seq.{length-take-le, take-at}
 use borrow.Author.Tests.{eq-eqb, ne-eqb}
 use Rattle.verdict.specs.declared.Verdict.{Verdict}
 use Rattle.verdict.specs.Verdict.{numberOf, placeOf}
-use Rattle.dayfile.specs.File.{areasOf}
+use Rattle.contents.specs.File.{areasOf}
 use Rattle.settlement.specs.SoundFile.{SoundFile}
 use Rattle.settlement.specs.Settlement.{mostNumbers, mostPlace, numbersNeeded, statementTo, daysBy, ownDays, settleOf, after}
 use Rattle.settlement.proofs.Accepted.{sound-file, settled}

@@ -14,7 +14,7 @@ use Rattle.verdict.specs.declared.Verdict.{Verdict}
 use Rattle.verdict.specs.Verdict.{numberOf}
 use Rattle.verdict.proofs.First.{scan-same}
 use Rattle.body.proofs.Kept.{always, sound-more}
-use Rattle.dayfile.specs.File.{editionOf, areasOf, startAt, bodyAt}
+use Rattle.contents.specs.File.{editionOf, areasOf, startAt, bodyAt}
 use Rattle.dayfile.specs.Check.{checkOf, checkWithin}
 use Rattle.dayfile.proofs.Facts.{file-head, file-entry}
 use Rattle.acceptance.proofs.SoundAccepted.{file-sound}

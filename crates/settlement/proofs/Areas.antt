@@ -10,7 +10,7 @@ use lib.ListN.{length, length-append}
 use Rattle.limits.specs.Ranges.{dayHours, mostCoordinators}
 use Rattle.body.specs.Layout.{coordinatorsOf}
 use Rattle.body.proofs.Kept.{sound-size}
-use Rattle.dayfile.specs.File.{areasOf, startAt, sizeAt, bodyAt}
+use Rattle.contents.specs.File.{areasOf, startAt, sizeAt, bodyAt}
 use Rattle.statement.specs.Block.{areaNumbers, block}
 use Rattle.statement.proofs.Demands.{count-few}
 use Rattle.statement.proofs.Hours.{hours-length}

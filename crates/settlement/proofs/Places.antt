@@ -18,7 +18,8 @@ use Rattle.verdict.proofs.First.{Holds, rule-holds, or-holds, scan-holds}
 use Rattle.body.specs.Layout.{kindOf, pointsOf, coordinatorsOf, hourAt, intervalsAt, demandsAt}
 use Rattle.body.specs.Check.{mostOfKind}
 use Rattle.body.proofs.Kept.{always, hour-inside}
-use Rattle.dayfile.specs.File.{editionOf, areasOf, startAt, bodyAt, cisoBefore}
+use Rattle.contents.specs.File.{editionOf, areasOf, startAt, bodyAt}
+use Rattle.dayfile.specs.Ciso.{cisoBefore}
 use Rattle.dayfile.specs.Check.{checkOf}
 use Rattle.dayfile.proofs.Facts.{file-length, file-head, file-entry, file-one-ciso, body-length}
 use Rattle.acceptance.proofs.Acceptance.{first-broken, length-exactly}

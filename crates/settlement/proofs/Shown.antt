@@ -11,7 +11,7 @@ use Rattle.limits.specs.Ranges.{dayHours, plainPoints}
 use Rattle.verdict.specs.Verdict.{numberOf}
 use Rattle.body.specs.Layout.{kindOf, coordinatorsOf, demandsAt}
 use Rattle.body.specs.Kept.{Sound}
-use Rattle.dayfile.specs.File.{areasOf, bodyAt}
+use Rattle.contents.specs.File.{areasOf, bodyAt}
 use Rattle.surcharge.specs.declared.Terms.{Terms}
 use Rattle.amounts.specs.Amounts.{onPeakAmount, offPeakAmount, downwardAmount, amountAt}
 use Rattle.statement.specs.Block.{amountsShown, hourNumbers, chargesAt, hourBlock, hoursBlock, block}

@@ -14,7 +14,7 @@ use Rattle.verdict.specs.declared.Verdict.the-variants.{Accepted, AmountWithout
 use Rattle.verdict.specs.Verdict.{numberOf}
 use Rattle.verdict.specs.First.{rule_else_then_, _orElse_, scan}
 use Rattle.body.specs.Layout.{kindOf, daysOf, coordinatorsOf, demandsAt, demandsOf}
-use Rattle.dayfile.specs.File.{areasOf, peakOf, numberAt, startAt, bodyAt}
+use Rattle.contents.specs.File.{areasOf, peakOf, numberAt, startAt, bodyAt}
 use Rattle.dayfile.specs.Check.{checkOf}
 use Rattle.surcharge.specs.declared.Terms.{Terms}
 use Rattle.amounts.specs.Amounts.{amountAt, priceRule}

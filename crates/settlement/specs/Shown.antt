@@ -5,7 +5,7 @@ use mathlib.Core.List.{List}
 use lib.IntN.{ℤ, pos}
 use lib.ListN.{length, getD, take, drop}
 use Rattle.body.specs.Layout.{coordinatorsOf}
-use Rattle.dayfile.specs.File.{bodyAt}
+use Rattle.contents.specs.File.{bodyAt}
 use Rattle.statement.specs.Block.{amountsShown, hourNumbers}
 use Rattle.settlement.specs.Settlement.{neededTo, settleBy, afterBy, ownDays}
 

@@ -5,7 +5,7 @@ use mathlib.Core.List.{List}
 use lib.ListN.{length}
 use Rattle.limits.specs.Ranges.{mostDays, plainAreas, plainPoints}
 use Rattle.body.specs.Kept.{Sound}
-use Rattle.dayfile.specs.File.{areasOf, startAt, sizeAt, bodyAt}
+use Rattle.contents.specs.File.{areasOf, startAt, sizeAt, bodyAt}
 use Rattle.settlement.specs.Settlement.{listed}
 
 pub record SoundFile (file : List ℕ) : Type 0 where

@@ -10,7 +10,7 @@ ghost use Rattle.exact.specs.Total.{total};
 ghost use Rattle.words.specs.Bytes.{wordsFrom};
 ghost use Rattle.limits.specs.Ranges.{mostDemand, plainPoints};
 ghost use Rattle.body.specs.Kept.{Sound};
-ghost use Rattle.dayfile.specs.File.{areasOf, peakOf};
+ghost use Rattle.contents.specs.File.{areasOf, peakOf};
 ghost use Rattle.surcharge.specs.Ranges.{TermsKept};
 ghost use Rattle.amounts.specs.Ranges.{AtHour};
 ghost use Rattle.settlement.specs.SoundFile.{SoundFile, Settleable};
@@ -30,7 +30,7 @@ pub fn numbers_needed(file: &[u8], n: usize) -> usize
     let mut needed: usize = 0;
     let mut k: usize = 0;
     while k < n {
-        let count = words::word(dayfile::body_at(file, k), 6) as usize;
+        let count = words::word(contents::body_at(file, k), 6) as usize;
         needed += statement::area_numbers(count);
         k += 1;
     }
@@ -51,7 +51,7 @@ fn write_areas(peak: u32, days: &[u32], file: &[u8], n: usize, statement: &mut [
             peak,
             days: days[k],
         };
-        let body = dayfile::body_at(file, k);
+        let body = contents::body_at(file, k);
         statement::write_area(terms, body, &mut statement[to..]);
         to += statement::area_numbers(words::word(body, 6) as usize);
         k += 1;
@@ -149,7 +149,7 @@ fn check_areas(peak: u32, days: &[u32], file: &[u8], n: usize) -> Verdict
             days: days[k],
         };
         let start = words::word(file, 4 + 3 * k + 1) as usize;
-        let v = check_area(terms, start, dayfile::body_at(file, k));
+        let v = check_area(terms, start, contents::body_at(file, k));
         if verdict::number(v) != 0 {
             return v;
         }
@@ -166,7 +166,7 @@ fn file_days(file: &[u8], n: usize) -> [u32; limits::PLAIN_AREAS]
     let mut days = [0u32; limits::PLAIN_AREAS];
     let mut k: usize = 0;
     while k < n {
-        days[k] = words::word(dayfile::body_at(file, k), 2);
+        days[k] = words::word(contents::body_at(file, k), 2);
         k += 1;
     }
     days

@@ -11,7 +11,7 @@ use Rattle.words.specs.Bytes.{wordsFrom}
 use Rattle.limits.specs.Ranges.{dayHours}
 use Rattle.verdict.specs.Verdict.{numberOf}
 use Rattle.body.specs.Layout.{kindOf, coordinatorsOf, demandsAt}
-use Rattle.dayfile.specs.File.{areasOf, startAt, bodyAt}
+use Rattle.contents.specs.File.{areasOf, startAt, bodyAt}
 use Rattle.shares.specs.Shares.{sum}
 use Rattle.shares.proofs.AddsUp.{adds-up}
 use Rattle.amounts.specs.Amounts.{onPeakAmount, offPeakAmount, downwardAmount, amountAt}

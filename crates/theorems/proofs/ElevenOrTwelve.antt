@@ -1,6 +1,6 @@
 -- Settlement answers 11 exactly where the first hour with a refusal has a needed price without quantity, and 12 exactly where it has not, and there is
 -- an amount and no demand.
-use Prim.Native.Nat.{ℕ, _+_, _*_, _≤_}
+use Prim.Native.Nat.{ℕ, _≤_}
 use mathlib.Core.Bool.{Bool, true, false, not, cond, _||_, true≢false}
 use mathlib.Core.List.{List}
 use mathlib.Core.Logic.{⊎-elim, _↔_, inr}
@@ -15,7 +15,7 @@ use Rattle.verdict.specs.declared.Verdict.the-variants.{Accepted, PriceWithoutQ
 use Rattle.verdict.specs.Verdict.{numberOf, placeOf}
 use Rattle.verdict.specs.First.{rule_else_then_, _orElse_}
 use Rattle.body.specs.Layout.{kindOf, demandsOf}
-use Rattle.dayfile.specs.File.{bodyAt}
+use Rattle.contents.specs.File.{bodyAt}
 use Rattle.acceptance.proofs.Acceptance.{check-most}
 use Rattle.price.specs.declared.Average.{Average}
 use Rattle.price.specs.Price.{answerOf, answerNumber}

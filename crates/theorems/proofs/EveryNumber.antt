@@ -9,7 +9,7 @@ use lib.IntN.{ℤ, pos}
 use lib.ListN.{length, getD, drop, length-append, length-drop}
 use lib.Seq.{getD-append-add, getD-drop}
 use Rattle.verdict.specs.Verdict.{numberOf}
-use Rattle.dayfile.specs.File.{areasOf}
+use Rattle.contents.specs.File.{areasOf}
 use Rattle.settlement.specs.Settlement.{numbersNeeded, statementTo, daysBy, ownDays, settleBy}
 use Rattle.settlement.specs.Shown.{statementLeftBy}
 use Rattle.settlement.proofs.Accepted.{sound-file, settled}

@@ -13,7 +13,7 @@ use Rattle.limits.specs.Ranges.{dayHours}
 use Rattle.verdict.specs.Verdict.{numberOf}
 use Rattle.verdict.proofs.First.{kept, or-second, scan-each}
 use Rattle.body.specs.Layout.{kindOf, demandsOf}
-use Rattle.dayfile.specs.File.{areasOf}
+use Rattle.contents.specs.File.{areasOf}
 use Rattle.dayfile.specs.Check.{checkOf}
 use Rattle.surcharge.specs.declared.Terms.{Terms}
 use Rattle.amounts.specs.Amounts.{amountAt}

@@ -8,7 +8,7 @@ use borrow.Author.Tests.{le-leb}
 use Rattle.limits.specs.Ranges.{dayHours}
 use Rattle.verdict.specs.Verdict.{numberOf}
 use Rattle.verdict.proofs.First.{kept, or-first, or-second, all-accept}
-use Rattle.dayfile.specs.File.{areasOf, startAt, bodyAt}
+use Rattle.contents.specs.File.{areasOf, startAt, bodyAt}
 use Rattle.dayfile.specs.Check.{checkOf}
 use Rattle.surcharge.specs.declared.Terms.{Terms}
 use Rattle.amounts.specs.Amounts.{priceRule}

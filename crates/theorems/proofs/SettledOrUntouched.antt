@@ -18,7 +18,7 @@ use Rattle.verdict.specs.declared.Verdict.the-variants.{Accepted, PriceWithoutQ
 use Rattle.verdict.specs.Verdict.{numberOf}
 use Rattle.verdict.specs.First.{rule_else_then_, _orElse_, scan}
 use Rattle.verdict.proofs.First.{scan-each, all-accept}
-use Rattle.dayfile.specs.File.{areasOf, bodyAt}
+use Rattle.contents.specs.File.{areasOf, bodyAt}
 use Rattle.dayfile.specs.Check.{checkOf}
 use Rattle.price.specs.Price.{answerNumber}
 use Rattle.amounts.specs.Amounts.{priceAnswerAt, priceNeeded, priceRule}

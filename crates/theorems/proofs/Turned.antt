@@ -11,7 +11,7 @@ use Rattle.words.specs.Bytes.{wordsFrom}
 use Rattle.limits.specs.Ranges.{dayHours}
 use Rattle.verdict.specs.Verdict.{numberOf}
 use Rattle.body.specs.Layout.{kindOf, coordinatorsOf, demandsAt}
-use Rattle.dayfile.specs.File.{areasOf, bodyAt}
+use Rattle.contents.specs.File.{areasOf, bodyAt}
 use Rattle.shares.proofs.Turned.{turned}
 use Rattle.surcharge.specs.declared.Terms.{Terms}
 use Rattle.amounts.specs.Amounts.{amountAt}

@@ -12,7 +12,7 @@ use Rattle.words.proofs.Words.{words-count, words-at}
 use Rattle.limits.specs.Ranges.{dayHours}
 use Rattle.verdict.specs.Verdict.{numberOf}
 use Rattle.body.specs.Layout.{kindOf, coordinatorsOf, demandsAt, demandsOf}
-use Rattle.dayfile.specs.File.{areasOf, bodyAt}
+use Rattle.contents.specs.File.{areasOf, bodyAt}
 use Rattle.shares.specs.Shares.{shares, apart}
 use Rattle.shares.proofs.WithinACent.{within-a-cent}
 use Rattle.amounts.specs.Amounts.{amountAt}

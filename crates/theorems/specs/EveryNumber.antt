@@ -6,7 +6,7 @@ use lib.IntN.{ℤ, pos}
 use lib.ListN.{length, getD}
 use Rattle.limits.specs.Ranges.{dayHours}
 use Rattle.body.specs.Layout.{coordinatorsOf}
-use Rattle.dayfile.specs.File.{areasOf, bodyAt}
+use Rattle.contents.specs.File.{areasOf, bodyAt}
 use Rattle.amounts.specs.Amounts.{onPeakAmount, offPeakAmount, downwardAmount}
 use Rattle.statement.specs.Block.{chargesAt}
 use Rattle.settlement.specs.Settlement.{numbersNeeded, termsBy}

@@ -11,7 +11,7 @@ use Rattle.verdict.specs.declared.Verdict.{Verdict}
 use Rattle.verdict.specs.declared.Verdict.the-variants.{RoomTooShort}
 use Rattle.verdict.specs.Verdict.{numberOf}
 use Rattle.body.specs.Layout.{kindOf, pointsOf, intervalsAt, demandsAt, demandsOf}
-use Rattle.dayfile.specs.File.{areasOf, startAt, bodyAt}
+use Rattle.contents.specs.File.{areasOf, startAt, bodyAt}
 use Rattle.dayfile.specs.Check.{checkOf}
 use Rattle.price.specs.Price.{averageOf}
 use Rattle.amounts.specs.Amounts.{pairsFrom, amountAt, priceNeeded}

@@ -13,7 +13,8 @@ use Rattle.limits.specs.Ranges.{leastBodyWords}
 use Rattle.verdict.specs.Verdict.{numberOf}
 use Rattle.body.specs.Layout.{kindOf}
 use Rattle.body.proofs.Rules.{one-ciso}
-use Rattle.dayfile.specs.File.{startAt, sizeAt, cisoBefore}
+use Rattle.contents.specs.File.{startAt, sizeAt}
+use Rattle.dayfile.specs.Ciso.{cisoBefore}
 use Rattle.dayfile.specs.Check.{bodyRuleAt, bodiesRule}
 use Rattle.dayfile.proofs.Entries.{entry}
 use Rattle.dayfile.proofs.bodies.Statement.{statement}

@@ -2,7 +2,7 @@ use borrow.Author.Needs.{needs}
 use denote.Ref.{now}
 use Prim.Native.Nat.{ℕ, suc, _+_, _*_, _-_, _/_, _≤_, _<_}
 use mathlib.Core.Bool.{cond}
-use mathlib.Core.List.{List, []}
+use mathlib.Core.List.{List}
 use mathlib.Core.Path.{_≡_, refl, sym, _∙_}
 use native.Mathlib.Omega.{arith}
 use native.Mathlib.Nat.{sub-zero}
@@ -13,9 +13,10 @@ use borrow.Author.Tests.{eq-eqb, ne-eqb}
 use Rattle.words.specs.Word.{wordAt}
 use Rattle.limits.specs.Editions.{limitsOf}
 use Rattle.verdict.specs.Verdict.{numberOf}
-use Rattle.dayfile.specs.File.{editionOf, numberAt}
+use Rattle.contents.specs.File.{editionOf, numberAt}
+use Rattle.contents.specs.BodyPart.{bodyPart}
 use Rattle.dayfile.specs.Check.{checkOf, checkWithin}
-use Rattle.dayfile.specs.Lookup.{nothing, bodyPart, partFrom}
+use Rattle.dayfile.specs.Lookup.{nothing, partFrom}
 use Rattle.dayfile.proofs.Lookup.{at-start}
 use Rattle.dayfile.proofs.Facts.{file-head, file-entry}
 use Rattle.dayfile.proofs.find.Statement.{statement}

@@ -7,7 +7,7 @@ use native.Mathlib.Nat.{sub-zero}
 use native.Mathlib.Omega.{arith}
 use Rattle.verdict.specs.First.{scan}
 use Rattle.verdict.proofs.First.{loop-next, loop-stop, loop-done}
-use Rattle.dayfile.specs.File.{areasOf}
+use Rattle.contents.specs.File.{areasOf}
 use Rattle.settlement.specs.Settlement.{listed, hoursRefusal, areaRefusal, areasRefusal}
 use Rattle.settlement.proofs.Areas.{placed}
 use Rattle.settlement.proofs.check_areas.Statement.{statement}

@@ -8,7 +8,7 @@ use lib.ListN.{length, set, length-set}
 use lib.Seq.{getD-set-same, getD-set-other}
 use Rattle.limits.specs.Ranges.{plainAreas}
 use Rattle.body.specs.Layout.{daysOf}
-use Rattle.dayfile.specs.File.{areasOf}
+use Rattle.contents.specs.File.{areasOf}
 use Rattle.settlement.specs.Settlement.{listed, daysBy, ownDays}
 use Rattle.settlement.proofs.Areas.{placed, head-inside}
 use Rattle.settlement.proofs.file_days.Statement.{statement}

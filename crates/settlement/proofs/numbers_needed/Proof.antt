@@ -4,7 +4,7 @@ use Prim.Native.Nat.{_*_, _-_, _≤_, _<_}
 use mathlib.Core.Path.{_≡_, refl, ap, _∙_}
 use native.Mathlib.Omega.{arith}
 use Rattle.body.specs.Layout.{coordinatorsOf}
-use Rattle.dayfile.specs.File.{areasOf, bodyAt}
+use Rattle.contents.specs.File.{areasOf, bodyAt}
 use Rattle.settlement.specs.Settlement.{neededTo}
 use Rattle.settlement.proofs.Areas.{needed-more, needed-small, placed, head-inside, area-few}
 use Rattle.limits.specs.Ranges.{mostCoordinators, plainAreas}

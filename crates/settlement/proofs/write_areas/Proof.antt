@@ -9,7 +9,7 @@ use lib.ListN.{length, take, drop, length-take, length-drop}
 use borrow.Rule.Slice.PartMut.{putMid}
 use Rattle.exact.proofs.Lending.{lent-back}
 use Rattle.body.specs.Layout.{coordinatorsOf}
-use Rattle.dayfile.specs.File.{areasOf, bodyAt}
+use Rattle.contents.specs.File.{areasOf, bodyAt}
 use Rattle.statement.specs.Block.{areaNumbers, block}
 use Rattle.settlement.specs.Settlement.{neededTo, termsAt, statementTo, listed}
 use Rattle.settlement.proofs.Areas.{needed-more, needed-within, statement-more, statement-length, placed, head-inside, area-few, needed-small}

@@ -2,8 +2,8 @@ use borrow.Author.Needs.{needs}
 use Prim.Native.Nat.{_+_, _*_, _-_}
 use mathlib.Core.Path.{_≡_}
 use native.Mathlib.Omega.{arith}
-use Rattle.dayfile.proofs.body_at.Statement.{statement}
-use Rattle.dayfile.proofs.body_at.Tie as tie
+use Rattle.contents.proofs.body_at.Statement.{statement}
+use Rattle.contents.proofs.body_at.Tie as tie
 
 returns : tie.Need-returns
 returns c =

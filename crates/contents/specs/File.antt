@@ -3,7 +3,6 @@ use Prim.Native.Nat.{ℕ, zero, suc, _+_, _*_}
 use mathlib.Core.List.{List}
 use lib.ListN.{take, drop}
 use Rattle.words.specs.Word.{wordAt}
-use Rattle.body.specs.Layout.{kindOf}
 
 module _ (file : List ℕ) where
   abbrev pub editionOf : ℕ
@@ -47,8 +46,3 @@ module _ (file : List ℕ) where
   -- the bytes of body k
   abbrev pub bodyAt : ℕ → List ℕ
   bodyAt k = take (4 * sizeAt k) (drop (4 * startAt k) file)
-
-  -- how many CISO areas stand before area k
-  unfoldable pub cisoBefore : ℕ → ℕ
-  cisoBefore zero = 0
-  cisoBefore (suc k) = cisoBefore k + kindOf (bodyAt k)

@@ -7,9 +7,9 @@ use native.Mathlib.Nat.{add-zero}
 use lib.ListN.{length, getD, take, drop, length-append}
 use lib.Seq.{getD-append-add, drop-append-add, take-at}
 use Rattle.words.specs.Word.{wordAt}
-use Rattle.dayfile.specs.File.{editionOf, dayOf, areasOf, peakOf, numberAt, startAt, sizeAt, bodyAt}
+use Rattle.contents.specs.File.{editionOf, dayOf, areasOf, peakOf, numberAt, startAt, sizeAt, bodyAt}
 use Rattle.words.specs.Bytes.{wordsBytes, Below}
-use Rattle.dayfile.specs.Parts.{Area, sizeOf, contentsOf, bodiesOf, frontOf, fileOf, areaAt, wordsTo}
+use Rattle.contents.specs.Parts.{Area, sizeOf, contentsOf, bodiesOf, frontOf, fileOf, areaAt, wordsTo}
 use Rattle.words.proofs.Words.{words-length, word-written}
 
 -- ---- the contents

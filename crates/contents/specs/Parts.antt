@@ -3,7 +3,7 @@ use Prim.Native.Nat.{ℕ, zero, suc, _+_, _*_, _/_}
 use mathlib.Core.List.{List, [], _∷_, _++_}
 use lib.ListN.{length, getD}
 use Rattle.words.specs.Bytes.{wordsBytes}
-use Rattle.dayfile.specs.File.{areasOf, numberAt, bodyAt}
+use Rattle.contents.specs.File.{areasOf, numberAt, bodyAt}
 
 pub record Area : Type 0 where
   pub number : ℕ

@@ -23,11 +23,6 @@ unfolding wordsTo
 words-shift area areas zero = omega arith
 words-shift area areas (suc k) = omega (arith, words-shift area areas k)
 
-contents-length : (start : ℕ) (areas : List Area) → length (contentsOf start areas) ≡ 3 * length areas
-unfolding contentsOf
-contents-length start [] = refl
-contents-length start (area ∷ areas) = omega (arith, contents-length (start + sizeOf area) areas)
-
 -- word j of the entry behind the first
 entry-next : (start : ℕ) (area : Area) (areas : List Area) (k j : ℕ)
     → getD (contentsOf start (area ∷ areas)) (3 * suc k + j) 0 ≡ getD (contentsOf (start + sizeOf area) areas) (3 * k + j) 0
@@ -54,6 +49,11 @@ unfolding contentsOf
 contents-size start [] k h = absurd (omega arith)
 contents-size start (area ∷ areas) zero h = refl
 contents-size start (area ∷ areas) (suc k) h = entry-next start area areas k 2 ∙ contents-size (start + sizeOf area) areas k (omega arith)
+
+contents-length : (start : ℕ) (areas : List Area) → length (contentsOf start areas) ≡ 3 * length areas
+unfolding contentsOf
+contents-length start [] = refl
+contents-length start (area ∷ areas) = omega (arith, contents-length (start + sizeOf area) areas)
 
 -- ---- the bodies
 

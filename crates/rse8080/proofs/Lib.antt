@@ -1,3 +1,2 @@
-pub mod Encoding
 pub mod Through
 pub mod Decoded

@@ -17,7 +17,8 @@ use Rattle.settlement.proofs.Accepted.{sound-file, settled}
 use Rattle.settlement.proofs.Areas.{statement-length}
 use Rattle.settlement.proofs.Places.{settle-place}
 use Rattle.settlement.proofs.Room.{check-accepts, room-enough, room-cut}
-use Rattle.rse8080.specs.Call.{encoded, verdictOf, bytesAfter}
+use Rattle.encoding.specs.Encoding.{encoded}
+use Rattle.rse8080.specs.Call.{verdictOf, bytesAfter}
 
 pub record Lent (file bytes : List ℕ) (numbers back : List ℤ) (room : ℕ) (answer : Verdict) : Type 0 where
   pub long : length numbers ≡ mostNumbers

@@ -1,37 +1,15 @@
 -- "The C call takes file bytes and statement bytes (8 little-endian bytes a number) and returns number × 1,000,000 + place.
 -- Bytes past the last whole number don't count and stay."
-use Prim.Native.Nat.{ℕ, _+_, _*_, _-_, _/_, _%_, _^_}
+use Prim.Native.Nat.{ℕ, _+_, _*_, _/_}
 use mathlib.Core.Bool.{cond}
-use mathlib.Core.List.{List, [], _∷_, _++_}
+use mathlib.Core.List.{List, _++_}
 use lib.Dec.{eqb}
-use lib.IntN.{ℤ, pos, negsuc}
 use lib.ListN.{length, drop}
 use Rattle.verdict.specs.declared.Verdict.{Verdict}
 use Rattle.verdict.specs.Verdict.{numberOf, placeOf}
+use Rattle.encoding.specs.Encoding.{encoded}
 use Rattle.contents.specs.File.{areasOf}
 use Rattle.settlement.specs.Settlement.{numbersNeeded, statementTo, daysBy, ownDays, settleOf}
-
--- the 64 bits of a number, two's complement
-abbrev pub bitsOf : ℤ → ℕ
-bitsOf (pos n) = n
-bitsOf (negsuc n) = 2 ^ 64 - (n + 1)
-
--- eight bytes, the lowest first
-unfoldable pub bytesOf : ℕ → List ℕ
-bytesOf bits =
-    bits % 256
-    ∷ bits / 256 % 256
-    ∷ bits / 65536 % 256
-    ∷ bits / 16777216 % 256
-    ∷ bits / 4294967296 % 256
-    ∷ bits / 1099511627776 % 256
-    ∷ bits / 281474976710656 % 256
-    ∷ bits / 72057594037927936 % 256
-    ∷ []
-
-unfoldable pub encoded : List ℤ → List ℕ
-encoded [] = []
-encoded (z ∷ numbers) = bytesOf (bitsOf z) ++ encoded numbers
 
 -- the verdict: a statement of so many bytes has room for an eighth as many numbers
 abbrev pub verdictOf : List ℕ → List ℕ → Verdict

@@ -10,7 +10,7 @@ use lib.ListN.{length, take, drop, getD, length-append}
 use lib.Seq.{take-suc, length-take-le}
 use borrow.Rule.Slice.PartMut.{putMid}
 use Rattle.exact.proofs.Lending.{lent-back}
-use Rattle.rse8080.specs.Call.{bitsOf, bytesOf, encoded}
+use Rattle.encoding.specs.Encoding.{bitsOf, bytesOf, encoded}
 
 eight : (bits : ℕ) → length (bytesOf bits) ≡ 8
 unfolding bytesOf

@@ -8,9 +8,9 @@ use lib.Signed.{ltZ}
 use borrow.Author.Tests.{ltb-true}
 use mir.Syntax.{w64}
 use mir.ValLaws.{toZ-ofZ}
-use Rattle.rse8080.specs.Call.{bitsOf}
-use Rattle.rse8080.proofs.bits.Statement.{statement}
-use Rattle.rse8080.proofs.bits.Tie as tie
+use Rattle.encoding.specs.Encoding.{bitsOf}
+use Rattle.encoding.proofs.bits.Statement.{statement}
+use Rattle.encoding.proofs.bits.Tie as tie
 
 below : (z : ℤ) → ltZ z (pos 0) ≡ true → (1 ≤ natAbs z) × (18446744073709551615 - (natAbs z - 1) ≡ bitsOf z)
 below (pos a) t = absurd (omega (arith, ltb-true a 0 t))

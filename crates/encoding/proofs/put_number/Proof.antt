@@ -5,9 +5,9 @@ use lib.ListN.{length-set}
 use lib.Seq.{sets-eq}
 use mir.Syntax.{w64}
 use mir.ValLaws.{toZ-ofZ}
-use Rattle.rse8080.specs.Call.{bitsOf, bytesOf}
-use Rattle.rse8080.proofs.put_number.Statement.{statement}
-use Rattle.rse8080.proofs.put_number.Tie as tie
+use Rattle.encoding.specs.Encoding.{bitsOf, bytesOf}
+use Rattle.encoding.proofs.put_number.Statement.{statement}
+use Rattle.encoding.proofs.put_number.Tie as tie
 
 returns : tie.Need-returns
 unfolding bytesOf

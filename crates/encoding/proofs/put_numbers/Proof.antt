@@ -7,10 +7,10 @@ use lib.ListN.{length, take, drop}
 use lib.Seq.{take-all}
 use mir.Syntax.{w64}
 use Rattle.exact.proofs.Machine.{got}
-use Rattle.rse8080.specs.Call.{encoded}
-use Rattle.rse8080.proofs.Encoding.{encoded-step}
-use Rattle.rse8080.proofs.put_numbers.Statement.{statement}
-use Rattle.rse8080.proofs.put_numbers.Tie as tie
+use Rattle.encoding.specs.Encoding.{encoded}
+use Rattle.encoding.proofs.Encoding.{encoded-step}
+use Rattle.encoding.proofs.put_numbers.Statement.{statement}
+use Rattle.encoding.proofs.put_numbers.Tie as tie
 
 abbrev Inv-loop : tie.InvT-loop
 Inv-loop numbers bytes₀ i₀ bytes i =

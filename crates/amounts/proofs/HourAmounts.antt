@@ -24,7 +24,7 @@ use Rattle.amounts.proofs.Hours.{most-small, hub-small}
 -- the price where it is needed, in range
 pub price-if-small : (t : Bool) (body : List ℕ) (load from : ℕ) → PairsRanged body load from → natAbs (priceIf t body from) ≤ mostMarketPrice
 unfolding priceIf priceFrom
-price-if-small true body load from r = rw (← r .load-is) (price-within _ _ (r .ranged))
+price-if-small true body load from r = price-within _ _ (r .ranged)
 price-if-small false body load from r = zero-le
 
 -- ---- the facts of the day

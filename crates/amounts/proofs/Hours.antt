@@ -7,7 +7,6 @@ use native.Mathlib.Nat.{add-assoc}
 use native.Mathlib.Numerals.{add-one}
 use native.Mathlib.Omega.{arith}
 use lib.IntN.{natAbs}
-use lib.ListN.{take, drop}
 use lib.Signed.{ltZ}
 use Rattle.words.proofs.Part.{word-part}
 use Rattle.limits.specs.Ranges.{dayHours, mostHubPrice, mostUpward, plainPoints}
@@ -19,7 +18,7 @@ use Rattle.price.specs.Ranged.{Ranged}
 use Rattle.surcharge.specs.declared.Terms.{Terms}
 use Rattle.surcharge.specs.Surcharge.{peakHour}
 use Rattle.surcharge.proofs.Sizes.{pick}
-use Rattle.amounts.specs.Amounts.{highest, upwardFrom, upwardAt, tierAt, hourFacts, hubPrice}
+use Rattle.amounts.specs.Amounts.{highest, upwardFrom, upwardAt, tierAt, hourFacts, hubPrice, pairsFrom}
 use Rattle.amounts.specs.Ranges.{HourRanged, PairsRanged}
 use Rattle.amounts.proofs.Quantities.{upward-small}
 
@@ -60,7 +59,7 @@ module _ (body : List ℕ) (sound : Sound plainPoints body) where
     hour-ranged = record { room = omega (arith, hour-inside plainPoints body sound h below); deficiency = λ i p. sound .deficiency h i below p always }
 
     part : List ℕ
-    part = take (4 * (24 * pointsOf body)) (drop (4 * intervalsAt body h) body)
+    part = pairsFrom body (intervalsAt body h)
 
     quantity-is : (i : ℕ) → i < 12 * pointsOf body → quantityOf part i ≡ quantityAt body h i
     unfolding part

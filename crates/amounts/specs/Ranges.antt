@@ -3,7 +3,7 @@ use Prim.Native.Nat.{ℕ, _+_, _*_, _≤_, _<_}
 use mathlib.Core.List.{List}
 use mathlib.Core.Path.{_≡_}
 use lib.IntN.{natAbs}
-use lib.ListN.{length, take, drop}
+use lib.ListN.{length}
 use Rattle.words.specs.Word.{wordAt}
 use Rattle.limits.specs.Ranges.{dayHours, mostAmount, plainPoints}
 use Rattle.hour.specs.Kept.{DeficiencyKept}
@@ -14,7 +14,7 @@ use Rattle.surcharge.specs.declared.Terms.{Terms}
 use Rattle.surcharge.specs.declared.Day.{Day}
 use Rattle.surcharge.specs.Ranges.{TermsKept}
 use Rattle.amounts.specs.declared.Amounts.{Amounts}
-use Rattle.amounts.specs.Amounts.{dayFacts}
+use Rattle.amounts.specs.Amounts.{pairsFrom, dayFacts}
 
 -- the hour that starts at word `at`
 pub record HourRanged (body : List ℕ) (at : ℕ) : Type 0 where
@@ -26,7 +26,7 @@ pub record PairsRanged (body : List ℕ) (load from : ℕ) : Type 0 where
   pub load-is : load ≡ pointsOf body
   pub few : load ≤ plainPoints
   pub room : 4 * from + 96 * load ≤ length body
-  pub ranged : Ranged (take (4 * (24 * load)) (drop (4 * from) body)) (12 * load)
+  pub ranged : Ranged (pairsFrom body from) (12 * pointsOf body)
 
 -- `at` is where hour h of a sound body starts, and `day` has the facts of its day under these terms
 pub record AtHour (terms : Terms) (day : Day) (body : List ℕ) (h at : ℕ) : Type 0 where

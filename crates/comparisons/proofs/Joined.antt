@@ -1,13 +1,13 @@
 -- Lists of one length joined, and numbers that stay below a bound.
-use Prim.Native.Nat.{ℕ, zero, suc, _+_, _*_, _-_, _≤_, _<_}
+use Prim.Native.Nat.{ℕ, zero, suc, _+_, _*_, _-_, _<_}
 use mathlib.Core.List.{List, _∷_, _++_}
 use mathlib.Core.Logic.{dite, ⊎-elim}
-use mathlib.Core.Path.{_≡_, sym, ap, _∙_}
+use mathlib.Core.Path.{_≡_, sym, _∙_}
 use native.Mathlib.Decide.{decLt}
 use native.Mathlib.Nat.{eq-or-lt-of-le, le-of-suc-le-suc, zero-mul, suc-mul, mul-le-mul-right}
 use native.Mathlib.Omega.{arith}
 use lib.ListN.{length, getD, take, drop, length-append, length-take, length-drop, List·getD-append}
-use lib.Seq.{getD-append-add, getD-at, getD-take, getD-drop, length-take-le}
+use lib.Seq.{getD-append-add, getD-take, getD-drop}
 use Rattle.words.specs.Bytes.{Below}
 use Rattle.shares.specs.Shares.{mergedAt}
 use Rattle.comparisons.specs.Merge.{joined}
@@ -32,28 +32,6 @@ module _ (f : ℕ → List ℕ) (width : ℕ) where
       let room = rw suc-mul at (mul-le-mul-right width l) in
       List·getD-append (joined f m) (f m) 0 (h * width + j) (omega (arith, room, long)) ∙ joined-at m (λ k r. each k (omega arith)) h j l q)
       (eq-or-lt-of-le (le-of-suc-le-suc p))
-
--- ---- a run of neighbours that is one
-
-module _ (add : List ℕ → ℕ) (i n : ℕ) (xs : List ℕ) (inside : i + n ≤ length xs) where
-  front : length (take i xs) ≡ i
-  front = length-take-le i xs (omega arith)
-
-  pub merged-before : (j : ℕ) → j < i → getD (mergedAt add i n xs) j 0 ≡ getD xs j 0
-  merged-before j h = List·getD-append (take i xs) (add (take n (drop i xs)) ∷ drop (i + n) xs) 0 j (omega (arith, front)) ∙ getD-take i xs j 0 h
-
-  pub merged-there : getD (mergedAt add i n xs) i 0 ≡ add (take n (drop i xs))
-  merged-there = getD-at (take i xs) (add (take n (drop i xs))) (drop (i + n) xs) 0 i front
-
-  pub merged-behind : (j : ℕ) → i < j → 1 ≤ n → getD (mergedAt add i n xs) j 0 ≡ getD xs (j + n - 1) 0
-  merged-behind j h some =
-      let d = j - i - 1 in
-      let at : j ≡ length (take i xs) + suc d = omega (arith, front) in
-      let back : i + n + d ≡ j + n - 1 = omega arith in
-      ap (λ k. getD (mergedAt add i n xs) k 0) at
-      ∙ getD-append-add (take i xs) (add (take n (drop i xs)) ∷ drop (i + n) xs) (suc d) 0
-      ∙ getD-drop (i + n) xs d 0
-      ∙ ap (λ k. getD xs k 0) back
 
 -- ---- numbers below a bound
 

@@ -1,13 +1,12 @@
 -- A sound body is sound with its neighbours merged.
 use Prim.Native.Nat.{ℕ, zero, suc, _+_, _-_, _≤_, _<_}
-use mathlib.Core.List.{List}
-use mathlib.Core.Logic.{dite, ⊎-elim}
-use mathlib.Core.Path.{_≡_, refl, sym, ap, _∙_}
-use native.Mathlib.Decide.{decLt, le-ind}
-use native.Mathlib.Nat.{eq-or-lt-of-le, le-refl, le-trans}
+use mathlib.Core.List.{List, _∷_}
+use mathlib.Core.Path.{_≡_, refl, sym}
+use native.Mathlib.Decide.{le-ind}
+use native.Mathlib.Nat.{le-refl, le-trans}
 use native.Mathlib.Numerals.{add-one}
 use native.Mathlib.Omega.{arith}
-use lib.ListN.{length}
+use lib.ListN.{length, getD}
 use Rattle.words.specs.Word.{wordAt}
 use Rattle.exact.specs.Total.{total}
 use Rattle.words.proofs.Totals.{total-more}
@@ -18,8 +17,10 @@ use Rattle.body.specs.Kept.{Sound}
 use Rattle.body.proofs.Kept.{always, hour-demand}
 use Rattle.words.specs.Bytes.{Below, wordsFrom}
 use Rattle.words.proofs.Words.{words-count, words-at}
+use Rattle.shares.specs.Shares.{mergedAt}
+use Rattle.shares.proofs.Merged.{merged-length}
+use Rattle.shares.proofs.Rising.{RisesAt, merged-rises}
 use Rattle.comparisons.specs.Merge.{Mergeable, Merged, mergedBody}
-use Rattle.comparisons.proofs.Joined.{merged-before, merged-there, merged-behind}
 use Rattle.comparisons.proofs.SameHours.{quantity-same, price-same}
 use Rattle.comparisons.proofs.MergedBody.{demand-same}
 use Rattle.comparisons.proofs.MergeWords.{other-length, head-is, count-is, coordinator-is, built}
@@ -32,13 +33,12 @@ running-grows body from j m h =
     le-ind (λ k. total (wordsFrom body from j) ≤ total (wordsFrom body from k)) (le-refl _)
     (λ k _ p. le-trans p (omega (arith, running-next body from k))) m h
 
-before-first : (body : List ℕ) → coordinatorBefore body 0 ≡ 0
+-- numbers that are those of a body's coordinators, with 0 before them
+before-in : (body numbers : List ℕ) (j : ℕ) → ((k : ℕ) → k < j → getD numbers k 0 ≡ coordinatorAt body k)
+    → getD (0 ∷ numbers) j 0 ≡ coordinatorBefore body j
 unfolding coordinatorBefore
-before-first body = refl
-
-before-next : (body : List ℕ) (j : ℕ) → coordinatorBefore body (suc j) ≡ coordinatorAt body j
-unfolding coordinatorBefore
-before-next body j = refl
+before-in body numbers zero same = refl
+before-in body numbers (suc j) same = same j (omega arith)
 
 module _ (most i n number : ℕ) (body : List ℕ) (g : Mergeable i n number body) (sound : Sound most body) (bytes : Below 256 body) where
   abbrev count : ℕ
@@ -53,67 +53,39 @@ module _ (most i n number : ℕ) (body : List ℕ) (g : Mergeable i n number bod
   abbrev numbers : List ℕ
   numbers = wordsFrom body 7 count
 
-  numbers-inside : i + n ≤ length numbers
-  numbers-inside = omega (arith, words-count body 7 count, g .inside)
-
   m : Merged i n body other
   m = built most i n number body g sound bytes
 
   -- ---- the coordinator numbers rise
 
-  at-before : (j : ℕ) → j < i → coordinatorAt other j ≡ coordinatorAt body j
-  at-before j h =
-      coordinator-is most i n number body g sound bytes j (omega (arith, g .inside))
-      ∙ merged-before (λ _. number) i n numbers numbers-inside j h
-      ∙ words-at body 7 count j (omega (arith, g .inside))
+  abbrev mergedNumbers : List ℕ
+  mergedNumbers = mergedAt (λ _. number) i n numbers
 
-  at-there : coordinatorAt other i ≡ number
-  at-there = coordinator-is most i n number body g sound bytes i (omega (arith, g .inside, g .some)) ∙ merged-there (λ _. number) i n numbers numbers-inside
+  many : length numbers ≡ count
+  many = words-count body 7 count
 
-  at-behind : (j : ℕ) → i < j → j < fewer → coordinatorAt other j ≡ coordinatorAt body (j + n - 1)
-  at-behind j h l =
-      coordinator-is most i n number body g sound bytes j l
-      ∙ merged-behind (λ _. number) i n numbers numbers-inside j h (g .some)
-      ∙ words-at body 7 count (j + n - 1) (omega (arith, g .inside, g .some))
+  number-is : (j : ℕ) → j < count → getD numbers j 0 ≡ coordinatorAt body j
+  number-is j p = words-at body 7 count j p
 
-  before-same : (j : ℕ) → j ≤ i → coordinatorBefore other j ≡ coordinatorBefore body j
-  before-same zero h = before-first other ∙ sym (before-first body)
-  before-same (suc j) h = before-next other j ∙ at-before j h ∙ sym (before-next body j)
+  before-is : (j : ℕ) → j ≤ count → getD (0 ∷ numbers) j 0 ≡ coordinatorBefore body j
+  before-is j p = before-in body numbers j (λ k q. number-is k (omega arith))
 
-  abbrev Rises : ℕ → Type 0
-  Rises j = (coordinatorBefore other j < coordinatorAt other j) × (coordinatorAt other j ≤ largestNumber)
+  each : (j : ℕ) → j < length numbers → RisesAt numbers j
+  each j p =
+      let q : j < count = omega (arith, many) in
+      rw (before-is j (omega arith), number-is j q) (sound .coordinator j q always)
 
-  rises-behind : (j : ℕ) → i ≤ j → suc j < fewer → Rises (suc j)
-  rises-behind j h l =
-      let back : suc j + n - 1 ≡ j + n = omega arith in
-      let here : coordinatorAt other (suc j) ≡ coordinatorAt body (j + n) = at-behind (suc j) (omega arith) l ∙ ap (coordinatorAt body) back in
-      let inside : j + n < count = omega (arith, g .inside, g .some) in
-      let from = sound .coordinator (j + n) inside always in
-      rw (before-next other j, here) (
-        ⊎-elim
-            (λ (e : i ≡ j).
-            let next : number < coordinatorAt body (j + n) = rw (← e) (g .under (omega (arith, e, inside))) in
-            rw (ap (coordinatorAt other) (sym e) ∙ at-there) next)
-            (λ (q : i < j).
-            let one : j + n ≡ suc (j + n - 1) = omega (arith, g .some) in
-            let before : coordinatorBefore body (j + n) ≡ coordinatorAt body (j + n - 1) = ap (coordinatorBefore body) one ∙ before-next body (j + n - 1) in
-            rw (at-behind j q (omega arith)) (rw before at (from .0)))
-            (eq-or-lt-of-le h),
-        from .1,
-      )
+  merged-is : (j : ℕ) → j < fewer → getD mergedNumbers j 0 ≡ coordinatorAt other j
+  merged-is j p = sym (coordinator-is most i n number body g sound bytes j p)
 
-  rises : (j : ℕ) → j < fewer → Rises j
-  rises j l =
-      dite (decLt j i)
-      (λ p. rw (before-same j (omega arith), at-before j p) (sound .coordinator j (omega (arith, p, g .inside)) always))
-      (λ p. ⊎-elim
-      (λ (e : i ≡ j). rw (← e, before-same i (omega arith), at-there) (g .above, g .small))
-      (λ (q : i < j). behind j q l)
-      (eq-or-lt-of-le (omega (arith, p))))
-    where
-      behind : (j : ℕ) → i < j → j < fewer → Rises j
-      behind zero q l = absurd (omega arith)
-      behind (suc j) q l = rises-behind j (omega arith) l
+  rises : (j : ℕ) → j < fewer → (coordinatorBefore other j < coordinatorAt other j) × (coordinatorAt other j ≤ largestNumber)
+  rises j p =
+      let inside : i + n ≤ length numbers = omega (arith, many, g .inside) in
+      let long : j < length mergedNumbers = omega (arith, merged-length (λ _. number) i n numbers inside, many) in
+      let above : getD (0 ∷ numbers) i 0 < number = rw (before-is i (omega (arith, g .inside))) (g .above) in
+      rw (before-in other mergedNumbers j (λ k q. merged-is k (omega arith)), merged-is j p) at
+      (merged-rises n number (g .small) i numbers each (omega (arith, inside)) above
+      (λ q. rw (number-is (i + n) (omega (arith, many))) (g .under (omega (arith, many)))) j long)
 
   -- ---- the demands
 

@@ -17,7 +17,7 @@ abbrev pub mostBytes : ℕ
 mostBytes = 65536
 
 unfoldable pub editionOne : Limits
-editionOne = record { areas = 8; points = 2; words = 2951; bounded = true; bytes = mostBytes }
+editionOne = record { areas = mostAreas; points = mostPoints; words = 2951; bounded = true; bytes = mostBytes }
 
 -- "Word 0: edition, 1"
 abbrev pub editionKnown : ℕ → Bool

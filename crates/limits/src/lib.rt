@@ -65,8 +65,8 @@ pub fn edition_one() -> Limits
     ensures { λ r. ⌜ r ≡ editionOne ⌝ }
 {
     Limits {
-        areas: 8,
-        points: 2,
+        areas: MOST_AREAS as u32,
+        points: MOST_POINTS as u32,
         words: 2951,
         bounded: true,
         bytes: MOST_BYTES,

@@ -6,3 +6,4 @@ pub mod WithinACent
 pub mod Merged
 pub mod Nothing
 pub mod Length
+pub mod Rising

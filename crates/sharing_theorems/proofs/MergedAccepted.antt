@@ -1,7 +1,7 @@
 -- Rows that the sharing call accepts are accepted with neighbours replaced by one, under a number that keeps the order.
 use Prim.Native.Nat.{ℕ, zero, suc, _+_, _≤_, _<_}
 use mathlib.Core.Bool.{true, _&&_, _||_}
-use mathlib.Core.List.{List, [], _∷_}
+use mathlib.Core.List.{List, _∷_}
 use mathlib.Core.Path.{_≡_, refl, sym, ap, _∙_}
 use native.Mathlib.Omega.{arith}
 use lib.Dec.{eqb, leb, ltb}
@@ -16,45 +16,13 @@ use Rattle.exact.proofs.Totals.{total-append, total-next}
 use Rattle.limits.specs.Ranges.{mostCoordinators, mostDemand, mostAmount, largestNumber}
 use Rattle.shares.specs.Shares.{mergedAt}
 use Rattle.shares.proofs.Merged.{merged-length, total-merged}
+use Rattle.shares.proofs.Rising.{RisesAt, merged-rises}
 use Rattle.columns.specs.Columns.{rowRule, coordinatorAbove, rowRuleAt, rowsRule, chargesRule, columnsRule}
 use Rattle.columns.proofs.Accepted.{rows-total}
 use Rattle.sharing.specs.declared.Row.{Row}
 use Rattle.sharing.specs.Rows.{coordinatorColumn, demandColumn, shareOf}
 use Rattle.sharing_theorems.specs.Charged.{mergedRow, mergedRows, Mergeable}
 use Rattle.sharing_theorems.proofs.Merged.{demands-merged, coordinators-merged}
-
--- ---- numbers that rise: each is above the one before it, the first above `before`, and none is above the largest
-
-abbrev Rising : ℕ → List ℕ → Type 0
-Rising before [] = Unit {0}
-Rising before (c ∷ cs) = (before < c) × ((c ≤ largestNumber) × Rising c cs)
-
-abbrev RisesAt : ℕ → List ℕ → ℕ → Type 0
-RisesAt before cs i = (getD (before ∷ cs) i 0 < getD cs i 0) × (getD cs i 0 ≤ largestNumber)
-
-rises : (before : ℕ) (cs : List ℕ) → ((i : ℕ) → i < length cs → RisesAt before cs i) → Rising before cs
-rises before [] each = tt
-rises before (c ∷ cs) each = let here = each 0 (omega arith) in (here .0, (here .1, rises c cs (λ i p. each (suc i) (omega arith))))
-
-rises-at : (before : ℕ) (cs : List ℕ) → Rising before cs → (i : ℕ) → i < length cs → RisesAt before cs i
-rises-at before [] r i p = absurd (omega arith)
-rises-at before (c ∷ cs) r zero p = (r .0, r .1 .0)
-rises-at before (c ∷ cs) r (suc i) p = rises-at c cs (r .1 .1) i (omega arith)
-
-module _ (n number : ℕ) (small : number ≤ largestNumber) where
-  rises-behind : (k before : ℕ) (cs : List ℕ) → Rising before cs → (k < length cs → number < getD cs k 0) → Rising number (drop k cs)
-  rises-behind zero before [] r under = tt
-  rises-behind zero before (c ∷ cs) r under = (under (omega arith), r .1)
-  rises-behind (suc k) before [] r under = tt
-  rises-behind (suc k) before (c ∷ cs) r under = rises-behind k c cs (r .1 .1) (λ p. under (omega arith))
-
-  rises-merged : (i before : ℕ) (cs : List ℕ) → Rising before cs → i ≤ length cs → getD (before ∷ cs) i 0 < number
-      → (i + n < length cs → number < getD cs (i + n) 0) → Rising before (mergedAt (λ _. number) i n cs)
-  rises-merged zero before cs r inside above under = (above, (small, rises-behind (0 + n) before cs r under))
-  rises-merged (suc i) before [] r inside above under = absurd (omega arith)
-  rises-merged (suc i) before (c ∷ cs) r inside above under =
-      let next : suc i + n ≡ suc (i + n) = omega arith in
-      rw next (r .0, (r .1 .0, rises-merged i c cs (r .1 .1) (omega arith) above (λ p. rw next at (under (omega arith)))))
 
 -- ---- the rows' rules
 
@@ -70,22 +38,20 @@ module _ (coordinators demands : List ℕ) (same : length coordinators ≡ lengt
   above-is zero = refl
   above-is (suc i) = refl
 
-  rows-rise : numberOf (rowsRule coordinators demands) ≡ 0 → Rising 0 coordinators
+  rows-rise : numberOf (rowsRule coordinators demands) ≡ 0 → (i : ℕ) → i < length coordinators → RisesAt coordinators i
   unfolding rowsRule rowRuleAt
-  rows-rise z =
-      rises 0 coordinators
-      (λ i p.
+  rows-rise z i p =
       let each = or-first _ _ (scan-each (rowRuleAt coordinators demands) (length demands) z i (omega (arith, same))) in
       let c = getD coordinators i 0 in
       let k = both _ _ (kept (ltb (coordinatorAbove coordinators i) c && leb c largestNumber) _ _ (λ q. omega arith) each .0) in
-      (rw (above-is i) at (ltb-true (coordinatorAbove coordinators i) c (k .0)), leb-true _ _ (k .1)))
+      (rw (above-is i) at (ltb-true (coordinatorAbove coordinators i) c (k .0)), leb-true _ _ (k .1))
 
-  rows-accept : Rising 0 coordinators → total demands ≤ mostDemand → numberOf (rowsRule coordinators demands) ≡ 0
+  rows-accept : ((i : ℕ) → i < length coordinators → RisesAt coordinators i) → total demands ≤ mostDemand → numberOf (rowsRule coordinators demands) ≡ 0
   unfolding rowsRule rowRuleAt
-  rows-accept r within =
+  rows-accept rise within =
       all-accept (rowRuleAt coordinators demands) (length demands)
       (λ i p.
-      let here = rises-at 0 coordinators r i (omega (arith, same)) in
+      let here = rise i (omega (arith, same)) in
       let whole = sym (total-append (take (i + 1) demands) (drop (i + 1) demands)) ∙ ap total (take-append-drop (i + 1) demands) in
       row-accepts i (coordinatorAbove coordinators i) (total (take i demands)) (getD coordinators i 0) (getD demands i 0)
       (rw (above-is i) (here .0)) (here .1) (omega (arith, whole, total-next demands i (omega arith))))
@@ -134,7 +100,7 @@ module _ (i n number : ℕ) (amount : ℤ) (rows : List Row) (room : ℕ) (g : M
       let shorter = merged-length (λ _. number) i n cs (omega (arith, long, g .inside)) in
       let shorter′ = merged-length total i n ds (omega (arith, deep, g .inside)) in
       rows-accept (mergedAt (λ _. number) i n cs) (mergedAt total i n ds) (omega (arith, shorter, shorter′, same))
-      (rises-merged n number (g .small) i 0 cs (rows-rise cs ds same (told .1 .0)) (omega (arith, long, g .inside))
+      (merged-rises n number (g .small) i cs (rows-rise cs ds same (told .1 .0)) (omega (arith, long, g .inside))
       (rw (← above-is cs ds same i) (g .above)) (λ p. g .under (omega (arith, long))))
       (rw (total-merged i n ds) (rows-total cs ds (told .1 .0)))
 

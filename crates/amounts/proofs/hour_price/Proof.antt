@@ -18,7 +18,7 @@ average-price-requires c κs =
     let b = now (s .args .body) in
     let n = 4 * (24 * s .args .load) in
     let m = part-length b (4 * s .args .from) n (omega (arith, s .pre .room)) in
-    rw (size s) ((omega (arith, s .pre .few), omega (arith, m)), s .pre .ranged)
+    rw (size s) ((omega (arith, s .pre .few), omega (arith, m)), rw (s .pre .load-is) (s .pre .ranged))
 
 returns : tie.Need-returns
 unfolding priceFrom

@@ -1,4 +1,5 @@
 use mathlib.Core.Path.{refl}
+use lib.Dec.{lit<}
 use Rattle.limits.specs.Editions.{editionOne}
 use Rattle.limits.proofs.edition_one.Statement.{statement}
 use Rattle.limits.proofs.edition_one.Tie as tie
@@ -8,4 +9,4 @@ unfolding editionOne
 returns c = refl
 
 pub edition-one-spec : {M : Type 1} → statement M
-edition-one-spec = tie.close (tie.spec returns)
+edition-one-spec = tie.close (tie.spec (λ c. record { fits = lit< tt }) (λ c. record { fits = lit< tt }) returns)

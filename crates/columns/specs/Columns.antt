@@ -1,8 +1,8 @@
 -- An amount shared over two columns, equally long: the coordinators and the demands of the sharing call's rows (docs/RULES.md, section 11). What is refused of
 -- them, and the charges afterwards.
-use Prim.Native.Nat.{ℕ, zero, suc}
+use Prim.Native.Nat.{ℕ}
 use mathlib.Core.Bool.{cond, _||_}
-use mathlib.Core.List.{List, _++_}
+use mathlib.Core.List.{List, _∷_, _++_}
 use mathlib.Core.Path.{_≡_}
 use lib.Dec.{eqb, leb, ltb}
 use lib.IntN.{ℤ, natAbs}
@@ -24,9 +24,8 @@ abbrev pub rowRule : (place before running coordinator demand : ℕ) → Verdict
 rowRule place before running coordinator demand = coordinatorRule place before coordinator orElse demandRule place running demand
 
 -- the coordinator before row i; 0 before the first
-unfoldable pub coordinatorAbove : List ℕ → ℕ → ℕ
-coordinatorAbove coordinators zero = 0
-coordinatorAbove coordinators (suc i) = getD coordinators i 0
+abbrev pub coordinatorAbove : List ℕ → ℕ → ℕ
+coordinatorAbove coordinators i = getD (0 ∷ coordinators) i 0
 
 unfoldable pub rowRuleAt : List ℕ → List ℕ → ℕ → Verdict
 rowRuleAt coordinators demands i = rowRule i (coordinatorAbove coordinators i) (total (take i demands)) (getD coordinators i 0) (getD demands i 0)

@@ -1,7 +1,7 @@
 -- Rows that the sharing call accepts are accepted with neighbours replaced by one, under a number that keeps the order.
-use Prim.Native.Nat.{ℕ, zero, suc, _+_, _≤_, _<_}
+use Prim.Native.Nat.{ℕ, _+_, _≤_, _<_}
 use mathlib.Core.Bool.{true, _&&_, _||_}
-use mathlib.Core.List.{List, _∷_}
+use mathlib.Core.List.{List}
 use mathlib.Core.Path.{_≡_, refl, sym, ap, _∙_}
 use native.Mathlib.Omega.{arith}
 use lib.Dec.{eqb, leb, ltb}
@@ -33,18 +33,13 @@ row-accepts place before running coordinator demand above small within =
     simp (lt-ltb _ _ above, le-leb _ _ small, le-leb demand mostDemand (omega arith), le-leb _ _ within)
 
 module _ (coordinators demands : List ℕ) (same : length coordinators ≡ length demands) where
-  above-is : (i : ℕ) → coordinatorAbove coordinators i ≡ getD (0 ∷ coordinators) i 0
-  unfolding coordinatorAbove
-  above-is zero = refl
-  above-is (suc i) = refl
-
   rows-rise : numberOf (rowsRule coordinators demands) ≡ 0 → (i : ℕ) → i < length coordinators → RisesAt coordinators i
   unfolding rowsRule rowRuleAt
   rows-rise z i p =
       let each = or-first _ _ (scan-each (rowRuleAt coordinators demands) (length demands) z i (omega (arith, same))) in
       let c = getD coordinators i 0 in
       let k = both _ _ (kept (ltb (coordinatorAbove coordinators i) c && leb c largestNumber) _ _ (λ q. omega arith) each .0) in
-      (rw (above-is i) at (ltb-true (coordinatorAbove coordinators i) c (k .0)), leb-true _ _ (k .1))
+      (ltb-true (coordinatorAbove coordinators i) c (k .0), leb-true _ _ (k .1))
 
   rows-accept : ((i : ℕ) → i < length coordinators → RisesAt coordinators i) → total demands ≤ mostDemand → numberOf (rowsRule coordinators demands) ≡ 0
   unfolding rowsRule rowRuleAt
@@ -54,7 +49,7 @@ module _ (coordinators demands : List ℕ) (same : length coordinators ≡ lengt
       let here = rise i (omega (arith, same)) in
       let whole = sym (total-append (take (i + 1) demands) (drop (i + 1) demands)) ∙ ap total (take-append-drop (i + 1) demands) in
       row-accepts i (coordinatorAbove coordinators i) (total (take i demands)) (getD coordinators i 0) (getD demands i 0)
-      (rw (above-is i) (here .0)) (here .1) (omega (arith, whole, total-next demands i (omega arith))))
+      (here .0) (here .1) (omega (arith, whole, total-next demands i (omega arith))))
 
 -- ---- the call
 
@@ -101,7 +96,7 @@ module _ (i n number : ℕ) (amount : ℤ) (rows : List Row) (room : ℕ) (g : M
       let shorter′ = merged-length total i n ds (omega (arith, deep, g .inside)) in
       rows-accept (mergedAt (λ _. number) i n cs) (mergedAt total i n ds) (omega (arith, shorter, shorter′, same))
       (merged-rises n number (g .small) i cs (rows-rise cs ds same (told .1 .0)) (omega (arith, long, g .inside))
-      (rw (← above-is cs ds same i) (g .above)) (λ p. g .under (omega (arith, long))))
+      (g .above) (λ p. g .under (omega (arith, long))))
       (rw (total-merged i n ds) (rows-total cs ds (told .1 .0)))
 
   charges-accepted : numberOf (chargesRule amount (total (mergedAt total i n ds)) (length (mergedAt total i n ds)) room) ≡ 0

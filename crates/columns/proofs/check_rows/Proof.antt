@@ -38,7 +38,7 @@ small c =
     demand-kept _ _ _ (or-second _ _ (ap numberOf (sym (c .before .before .check-row .ensures)) ∙ sym (c .before .number .ensures) ∙ c .if1 .left)) .1
 
 loop-holds : tie.Need-loop-holds Inv-loop μ-loop
-unfolding coordinatorAbove total rowsRule
+unfolding total rowsRule
 loop-holds c = (omega arith, refl, refl, omega arith, simp sub-zero)
 
 returns : tie.Need-returns Inv-loop μ-loop
@@ -50,7 +50,6 @@ add-running : tie.Need-add-running Inv-loop μ-loop
 add-running c = omega (arith, small c)
 
 loop-again : tie.Need-loop-again Inv-loop μ-loop
-unfolding coordinatorAbove
 loop-again c =
     let i = c .before .before .before .before .before in
     let l = i .before .loop in

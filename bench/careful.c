@@ -236,25 +236,30 @@ static area_t read_area(uint32_t peak, const uint8_t *body)
     return a;
 }
 
-/* The load-weighted price; false where no quantity stands under it. */
-static int price_of(const uint8_t *pairs, size_t count, int64_t *price)
+/* The load-weighted price of L load points. Returns 0, or its refusal: 16 with fewer than 9L of its 12L prices, 11 with no quantity
+ * under them. */
+static uint32_t price_of(const uint8_t *pairs, size_t points, int64_t *price)
 {
     int64_t value = 0;
     uint32_t quantity = 0;
-    size_t i;
-    for (i = 0; i < count; i++) {
+    size_t i, present = 0;
+    for (i = 0; i < 12 * points; i++) {
         uint32_t q = word(pairs, 2 * i);
         int32_t p = (int32_t)word(pairs, 2 * i + 1);
         if (p != MISSING) {
             value += (int64_t)q * p;
             quantity += q;
+            present++;
         }
     }
+    if (present < 9 * points) {
+        return 16;
+    }
     if (quantity == 0) {
-        return 0;
+        return 11;
     }
     *price = rounded(value, quantity);
-    return 1;
+    return 0;
 }
 
 static inline int price_needed(const area_t *a, int peak, uint32_t tier)
@@ -262,7 +267,7 @@ static inline int price_needed(const area_t *a, int peak, uint32_t tier)
     return a->flag == 1 && (peak ? a->tier >= 2 && tier == 0 : tier >= 2);
 }
 
-/* The three amounts of an hour; false where a needed price has no quantity under it. */
+/* The three amounts of an hour; false where a needed price is refused. */
 static int amounts_of(const area_t *a, uint32_t peak_word, const uint8_t *hour, size_t h, amounts_t *amounts)
 {
     int peak = peak_hour(peak_word, h);
@@ -272,7 +277,7 @@ static int amounts_of(const area_t *a, uint32_t peak_word, const uint8_t *hour, 
     if (a->flag != 1) {
         return 1;
     }
-    if (price_needed(a, peak, tier) && !price_of(hour + 32, 12 * (size_t)a->points, &price)) {
+    if (price_needed(a, peak, tier) && price_of(hour + 32, a->points, &price) != 0) {
         return 0;
     }
     if (peak && a->tier >= 2) {
@@ -314,8 +319,9 @@ static uint64_t check_amounts(uint32_t peak, const uint8_t *file, size_t n)
             uint32_t tier = tier_of(upward_of(hour), word(hour, 6));
             amounts_t amounts;
             int64_t price;
-            if (price_needed(&a, peak_hour(peak, h), tier) && !price_of(hour + 32, 12 * (size_t)a.points, &price)) {
-                return REFUSED(11, start + at + 8);
+            uint32_t refusal = price_needed(&a, peak_hour(peak, h), tier) ? price_of(hour + 32, a.points, &price) : 0;
+            if (refusal != 0) {
+                return REFUSED(refusal, start + at + 8);
             }
             if (a.kind == 1 && total_demand(&a, demands) == 0) {
                 amounts_of(&a, peak, hour, h, &amounts);

@@ -34,6 +34,7 @@ extern "C" {
 #define RSE8080_PRICE_WITHOUT_QUANTITY 11u /* a needed price has no quantity under it; place: the hour's first interval word */
 #define RSE8080_AMOUNT_WITHOUT_DEMAND 12u  /* CISO, an amount and no demand; place: the hour's first demand word */
 #define RSE8080_STATEMENT_TOO_SHORT 13u    /* place: the numbers needed, so 8 times as many bytes */
+#define RSE8080_TOO_FEW_INTERVALS 16u      /* a needed price has fewer than 9L of its 12L interval prices; place as for 11 */
 
 /* Checks the whole file, and settles it into the statement.
  *

@@ -5,7 +5,7 @@ random days.
 A Day holds exactly the numbers of a day file; `to_bytes` works out the contents. The builder checks
 nothing, so that a day with a number out of its range can be built too. The random days keep every
 rule of the check, so that each is accepted unless it is damaged afterwards; settling may still
-refuse one with 11 or 12.
+refuse one with 16, 11 or 12.
 
 Only `randrange` and `choice` of random.Random are used, and no floating point number, so that a
 seed gives the same days on every machine.
@@ -290,21 +290,33 @@ def random_quantity(rng, style):
     return rng.choice((0, 1, MOST_QUANTITY, MOST_QUANTITY - 1, between(rng, 0, MOST_QUANTITY)))
 
 
+def missing_at(pairs, places):
+    """The same intervals, with no price at some places."""
+    return [(q, MISSING if place in places else p) for place, (q, p) in enumerate(pairs)]
+
+
+def random_places(rng, count, some):
+    """So many of the places 0 to count - 1."""
+    left = list(range(count))
+    return [left.pop(rng.randrange(len(left))) for _ in range(some)]
+
+
 def random_pairs(rng, style, count, gaps):
-    """Intervals of an hour: mostly all present, some with missing prices; with gaps, few without
-    any price or without any quantity, which settling refuses where the price is needed."""
+    """Intervals of an hour: mostly all present, some with a quarter of the prices missing or less;
+    with gaps, few with more missing or without any quantity, which settling refuses where the price
+    is needed."""
     pairs = [(random_quantity(rng, style), random_market_price(rng, style)) for _ in range(count)]
     what = rng.randrange(100)
-    if gaps and what < 4:
-        return [(q, MISSING) for q, _ in pairs]
-    if gaps and what < 8:
-        return [(0, p) for _, p in pairs]
-    if what < 30:
-        pairs = [(q, MISSING if chance(rng, 40) else p) for q, p in pairs]
-    elif what < 40:
-        # One interval is left.
-        only = rng.randrange(count)
-        pairs = [(q, p if i == only else MISSING) for i, (q, p) in enumerate(pairs)]
+    quarter = count // 4
+    if gaps and what < 6:
+        some = rng.choice((quarter + 1, count - 1, count, between(rng, quarter + 1, count)))
+        return missing_at(pairs, random_places(rng, count, some))
+    if gaps and what < 10:
+        pairs = [(0, p) for _, p in pairs]
+        return missing_at(pairs, random_places(rng, count, rng.choice((0, quarter))))
+    if what < 40:
+        some = rng.choice((quarter, between(rng, 1, quarter)))
+        pairs = missing_at(pairs, random_places(rng, count, some))
     if all(q == 0 or p == MISSING for q, p in pairs):
         pairs[rng.randrange(count)] = (between(rng, 1, 9), random_market_price(rng, style))
     return pairs
@@ -381,8 +393,8 @@ def random_date(rng):
 
 
 def random_day_of(rng, shapes, style=None, peak=None, gaps=None):
-    """A random day with these areas, (kind, L, K) each. Style, peak word and gaps (hours without
-    a price, a quantity or a demand) are drawn unless they are given."""
+    """A random day with these areas, (kind, L, K) each. Style, peak word and gaps (hours with too
+    few prices, without a quantity or without a demand) are drawn unless they are given."""
     highest = rng.choice((len(shapes) + 3, 3000, LARGEST_NUMBER))
     numbers = rising(rng, len(shapes), highest)
     areas = []

@@ -1,10 +1,11 @@
 #!/usr/bin/env python3
-"""The rules of document 01 as plain functions: the check, the settlement, the price of an hour,
-the sharing of an amount, the lookup, the C call and the program.
+"""The rules of document 01, and of document 02 as far as its requests are taken up (§1), as plain
+functions: the check, the settlement, the price of an hour, the sharing of an amount, the lookup,
+the C call and the program.
 
-It is written to be read beside document 01 and to be right, not to be fast. Quantities, prices and
-amounts are exact fractions in MW, dollars a MWh and dollars, and are rounded once, by R. It shares
-no code with the crates, so that an agreement of the two says something.
+It is written to be read beside these documents and to be right, not to be fast. Quantities, prices
+and amounts are exact fractions in MW, dollars a MWh and dollars, and are rounded once, by R. It
+shares no code with the crates, so that an agreement of the two says something.
 
 Run as a program it prints the figures T1 to T12 and Case P, and exits 1 if one is off.
 """
@@ -317,6 +318,17 @@ def load_weighted(pairs):
     return R(10000 * value / weight)
 
 
+def prices_present(pairs):
+    """The count of intervals whose price was present."""
+    return sum(1 for _, price in pairs if price != MISSING)
+
+
+def too_few_present(pairs):
+    """Fewer than 9L present of its 12L (document 02, §1)."""
+    load_points = len(pairs) // 12
+    return prices_present(pairs) < 9 * load_points
+
+
 def price_is_needed(area, hour):
     """It is needed in an off-peak hour of tier 2 or 3 and in a tier 0 peak hour of a day of
     tier 2 or 3, flag 1 only."""
@@ -362,12 +374,16 @@ def downward(W, mec):
 
 
 def amounts(area, hour):
-    """On-peak, off-peak and downward amount of an hour, or refusal 11."""
+    """On-peak, off-peak and downward amount of an hour, or refusal 16 or 11."""
     # All amounts of an area with EDAM flag 0 are 0.
     if area.flag == 0:
         return 0, 0, 0
     price = None
     if price_is_needed(area, hour):
+        # 16: too few intervals, place as for 11, directly before 11.
+        if too_few_present(hour.pairs):
+            raise Refused(16, hour.first_interval)
+        # 11 remains for enough prices with no quantity.
         price = load_weighted(hour.pairs)
         if price is None:
             raise Refused(11, hour.first_interval)
@@ -442,20 +458,21 @@ def settle(file_bytes, statement):
 
 
 def price(pair_bytes):
-    """The price call: number, place, price in $0.0001."""
+    """The price call: number, place, price in $0.0001, count of intervals whose price was present
+    (0 on a refusal for length or range)."""
     # 96 or 192 bytes of pairs: 1 for another length.
     if len(pair_bytes) not in (96, 192):
-        return 1, 0, 0
+        return 1, 0, 0, 0
     words = words_of(pair_bytes)
     pairs = list(zip(words[0::2], words[1::2]))
     # 9 with the pair's number from 0.
     for number, (quantity, pair_price) in enumerate(pairs):
         if not (is_quantity(quantity) and is_price(pair_price)):
-            return 9, number, 0
+            return 9, number, 0, 0
     value = load_weighted(pairs)
     if value is None:
-        return 11, 0, 0
-    return 0, 0, value
+        return 11, 0, 0, prices_present(pairs)
+    return 0, 0, value, prices_present(pairs)
 
 
 def row_rules(rows):
@@ -536,7 +553,8 @@ def program(file_bytes):
 
 # The figures to hold
 
-CASE_P = "8080 20260504 1\n7 12 3 200000\ntotal 200000\n"
+# Document 02, §1: hour 3 of Case P has one price of twelve.
+CASE_P = "refused 16 89\n"
 
 
 def case_p():
@@ -607,7 +625,7 @@ def call_figures():
     """T10 by the price call, T11 and T12 by the sharing call."""
     pairs = [(100000, 300000), (300000, 500000)] + [(100000, MISSING)] * 10
     pair_words = [word for pair in pairs for word in pair]
-    yield "T10", (0, 0, 450000), price(struct.pack("<24i", *pair_words))
+    yield "T10", (0, 0, 450000, 2), price(struct.pack("<24i", *pair_words))
     table = (
         ("T11 100 cents over 1, 1, 1", 100, (1, 1, 1), [33, 34, 33]),
         ("T11 the first two merged", 100, (2, 1), [67, 33]),

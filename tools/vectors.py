@@ -11,7 +11,7 @@ A case is four little-endian words (call, x, y, payload bytes) and the payload:
 
     1 check    a day file                                      number, place
     2 settle   a day file, x numbers lent                      number, place, the x numbers
-    3 price    interval pairs                                  number, place, price
+    3 price    interval pairs                                  number, place, price, count
     4 share    8 bytes of amount, 8 bytes a row, x lent        number, place, the x charges
     5 lookup   a day file, x the area's number                 length and digest of the part
     6 C call   a day file, x statement bytes lent              coded answer, digest of the x bytes
@@ -20,6 +20,7 @@ The expected lines come from reference.py alone. Each group of cases is one gene
 a seed of its own, so that a group added or left out does not move another.
 """
 
+import itertools
 import random
 import struct
 import sys
@@ -115,11 +116,12 @@ def line(case):
 
 
 def vector_files():
-    """Every day file of vectors/, by name."""
+    """The day files of vectors/, by name: those that the vectors program has room for."""
     paths = sorted((ROOT / "vectors").glob("*.day"), key=lambda path: path.name)
     if not paths:
         sys.exit("vectors/ has no day file.")
-    return [path.read_bytes() for path in paths]
+    files = [path.read_bytes() for path in paths]
+    return [file_bytes for file_bytes in files if len(file_bytes) <= MOST_PAYLOAD]
 
 
 def filled_day(rng, *shapes, style=days.REALISTIC):
@@ -170,7 +172,7 @@ def refused_files(rng):
 
 
 def check_vector_files(rng):
-    """Every file of vectors/."""
+    """The files of vectors/."""
     for file_bytes in vector_files():
         yield Case(CHECK, 0, file_bytes)
 
@@ -705,7 +707,7 @@ def lookup_vector_files(rng):
 
 
 def settle_vector_files(rng):
-    """Every file of vectors/, in exactly the numbers needed."""
+    """The files of vectors/, in exactly the numbers needed."""
     for file_bytes in vector_files():
         yield Case(SETTLE, needed(file_bytes) or 5, file_bytes)
 
@@ -887,40 +889,56 @@ def without_price(hour):
     hour.pairs = [(quantity, MISSING) for quantity, _ in hour.pairs]
 
 
+def one_price_short(hour):
+    """8 of 12 prices, or 17 of 24: one below 9L."""
+    count = len(hour.pairs)
+    hour.pairs = days.missing_at(hour.pairs, range(count // 4 + 1))
+
+
 def without_quantity(hour):
     hour.pairs = [(0, price) for _, price in hour.pairs]
 
 
+def just_enough_without_quantity(hour):
+    """9L prices and no quantity under them, and quantities where the price is missing."""
+    count = len(hour.pairs)
+    missing = range(0, count, 4)
+    hour.pairs = [
+        (quantity if place in missing else 0, price)
+        for place, (quantity, price) in enumerate(days.missing_at(hour.pairs, missing))
+    ]
+
+
 def settle_no_price(rng):
-    """Refusal 11 at the first and last hour and area where it can come, and where no price is
-    needed."""
+    """Refusals 16 and 11 at the first and last hour and area where they can come, and where no
+    price is needed."""
     two = [SMALL, (1, 1, 2)]
+    gaps = (one_price_short, just_enough_without_quantity)
     # Off-peak hours of tier 2, without peak hours: area and hour of the first gap.
     for area, hour in ((0, 0), (0, 23), (1, 0), (1, 23)):
-        for gap in (without_price, without_quantity):
+        for gap in gaps:
             day = failing_day(two)
             gap(day.areas[area].hours[hour])
             yield Case(SETTLE, day.numbers_needed(), day.to_bytes())
-    # Present prices without quantity beside quantities without price.
-    day = failing_day([(0, 2, 1)])
-    day.areas[0].hours[23].pairs = [(0, 5000), (9000, MISSING)] * 12
-    yield Case(SETTLE, 96, day.to_bytes())
-    # Two gaps: the first in order.
-    day = failing_day([SMALL])
-    without_price(day.areas[0].hours[9])
-    without_quantity(day.areas[0].hours[4])
-    yield Case(SETTLE, 96, day.to_bytes())
-    # One interval of quantity 1 is enough.
-    day = failing_day([SMALL])
-    day.areas[0].hours[23].pairs = [(500, MISSING)] * 11 + [(1, -300000)]
-    yield Case(SETTLE, 96, day.to_bytes())
+    # Nothing is left: no price, or no quantity.
+    for gap in (without_price, without_quantity):
+        day = failing_day([(0, 2, 1)])
+        gap(day.areas[0].hours[23])
+        yield Case(SETTLE, 96, day.to_bytes())
+    # Among nine prices one of quantity 1 is enough; eight are too few at any quantity.
+    for present in (9, 8):
+        day = failing_day([SMALL])
+        some = [(0, 7)] * (present - 1) + [(1, -300000)]
+        day.areas[0].hours[23].pairs = [(500, MISSING)] * (12 - present) + some
+        yield Case(SETTLE, 96, day.to_bytes())
     # Peak hours: needed in tier 0 of a day of tier 2 or 3, also where S is 0.
     for hub, hour in ((5000, 6), (5000, 21), (-5000, 21)):
-        day = on_peak_day(hub_a=hub, hub_b=hub)
-        day.areas[0].hours[6].energy_up = 0
-        day.areas[0].hours[13].energy_up = 120000
-        without_price(day.areas[0].hours[hour])
-        yield Case(SETTLE, 96, day.to_bytes())
+        for gap in gaps:
+            day = on_peak_day(hub_a=hub, hub_b=hub)
+            day.areas[0].hours[6].energy_up = 0
+            day.areas[0].hours[13].energy_up = 120000
+            gap(day.areas[0].hours[hour])
+            yield Case(SETTLE, 96, day.to_bytes())
     # Not needed: peak hours of tier 1 to 3, tier 0 and 1 off-peak, a day of tier 1, flag 0.
     day = on_peak_day()
     for hour in (0, 5, 6, 7, 22, 23):
@@ -933,15 +951,15 @@ def settle_no_price(rng):
         for hour in day.areas[0].hours:
             without_price(hour)
         yield Case(SETTLE, 96, day.to_bytes())
-    # 13 before 11.
-    day = failing_day([SMALL])
-    without_price(day.areas[0].hours[0])
-    yield Case(SETTLE, 95, day.to_bytes())
-    yield Case(SETTLE, 0, day.to_bytes())
+    # 13 before 16 and 11.
+    for gap in gaps:
+        day = failing_day([SMALL])
+        gap(day.areas[0].hours[0])
+        yield Case(SETTLE, 95, day.to_bytes())
 
 
 def settle_no_demand(rng):
-    """Refusal 12 at the first and last hour, in competition with 11 and 13, and where it cannot
+    """Refusal 12 at the first and last hour, in competition with 16, 11 and 13, and where it cannot
     come."""
     shapes = [(1, 1, 2), SMALL]
     for shape_order in (shapes, shapes[::-1]):
@@ -955,13 +973,6 @@ def settle_no_demand(rng):
         day.areas[ciso].hours[0].demands = [0, 0]
         without_price(day.areas[1 - ciso].hours[23])
         yield Case(SETTLE, day.numbers_needed(), day.to_bytes())
-    # 12 and 11 in one hour, 12 in the hour before, 11 in the hour before; each with 13.
-    for dry, gap in ((8, 8), (7, 8), (8, 7)):
-        day = failing_day([(1, 1, 2)])
-        day.areas[0].hours[dry].demands = [0, 0]
-        without_price(day.areas[0].hours[gap])
-        yield Case(SETTLE, 120, day.to_bytes())
-        yield Case(SETTLE, 119, day.to_bytes())
     # All demands 0: no amount, flag 0 and kind 0 have nothing to refuse.
     quiet = days.quiet_day([(1, 1, 2)], demand=0)
     yield Case(SETTLE, 120, quiet.to_bytes())
@@ -1090,6 +1101,20 @@ def price_without_quantity(rng):
             # One unit of quantity is enough.
             yield Case(PRICE, 0, pair_bytes([(1, -7)] + pairs[1:]))
             yield Case(PRICE, 0, pair_bytes(pairs[:-1] + [(1, 20000000)]))
+
+
+def price_counts(rng):
+    """Every count of present prices, with and without quantity under them; a count is no refusal,
+    and a refusal for range has none."""
+    for count in (12, 24):
+        for missing in range(count + 1):
+            for quantity in (1000, 0):
+                pairs = [(quantity, 250000 + place) for place in range(count)]
+                pairs = days.missing_at(pairs, days.random_places(rng, count, missing))
+                yield Case(PRICE, 0, pair_bytes(pairs))
+            # The quantity under a missing price is as much a quantity as any other: it is checked.
+            pairs[-1] = (10000001, MISSING)
+            yield Case(PRICE, 0, pair_bytes(pairs))
 
 
 def price_figures(rng):
@@ -1335,15 +1360,82 @@ def c_call_rooms(rng):
 
 
 def c_call_refused(rng):
-    """The numbers of the check, 11 and 12: nothing is written."""
+    """The numbers of the check, 12, 11 and 16: nothing is written."""
     for number, file_bytes in enumerate(refused_files(rng)):
         yield Case(C_CALL, (768, 0)[number % 2], file_bytes)
     day = failing_day([(1, 1, 2)])
     day.areas[0].hours[23].demands = [0, 0]
     yield Case(C_CALL, 960, day.to_bytes())
-    without_price(day.areas[0].hours[23])
-    yield Case(C_CALL, 960, day.to_bytes())
-    yield Case(C_CALL, 959, day.to_bytes())
+    for gap in (without_quantity, without_price):
+        gap(day.areas[0].hours[23])
+        yield Case(C_CALL, 960, day.to_bytes())
+        yield Case(C_CALL, 959, day.to_bytes())
+
+
+def c_call_of(day):
+    """A day in exactly the room that it needs: settled, or what an hour refuses."""
+    return Case(C_CALL, 8 * day.numbers_needed(), day.to_bytes())
+
+
+def c_call_prices_seen(rng):
+    """None to all of an hour's prices present, one load point and two, off-peak and peak, and with
+    the missing ones first, last and anywhere: settled from 9L on."""
+    for load_points in (1, 2):
+        count, enough = 12 * load_points, 9 * load_points
+        for present in sorted({0, 1, 8, 9, enough - 1, enough, enough + 1, count - 1, count}):
+            missing = count - present
+            for places in (
+                range(missing),
+                range(present, count),
+                days.random_places(rng, count, missing),
+            ):
+                for peak in (0, PEAK_WORD):
+                    day = failing_day([(0, load_points, 1)], peak)
+                    # A passed peak hour of a day of tier 2, or an off-peak hour that fails.
+                    hour = day.areas[0].hours[14]
+                    hour.energy_up = 0 if peak else 20000
+                    hour.pairs = [(between(rng, 1, 9), between(rng, -99, 999)) for _ in hour.pairs]
+                    hour.pairs = days.missing_at(hour.pairs, places)
+                    yield c_call_of(day)
+    # Two load points: the prices of both count together.
+    for first, second in ((12, 5), (12, 6), (9, 8), (9, 9), (6, 12), (5, 12)):
+        day = failing_day([(0, 2, 1)])
+        some = days.missing_at([(1000, 250000)] * 12, range(first, 12))
+        more = days.missing_at([(1000, 250000)] * 12, range(second, 12))
+        day.areas[0].hours[23].pairs = some + more
+        yield c_call_of(day)
+    # Not needed: one price of twelve does in peak hours that fail, and with EDAM flag 0.
+    for flag in (0, 1):
+        day = failing_day([SMALL], PEAK_WORD)
+        day.areas[0].flag = flag
+        for hour in day.areas[0].hours[6:22]:
+            hour.pairs = days.missing_at(hour.pairs, range(11))
+        yield c_call_of(day)
+        one_price_short(day.areas[0].hours[22])
+        yield c_call_of(day)
+
+
+def dry(hour):
+    hour.demands = [0] * len(hour.demands)
+
+
+def c_call_order_of_hours(rng):
+    """16, 11 and 12 in one file, in every order of hours and of areas, and two or three of them in
+    one hour: areas and hours in order, in each hour 16, 11, 12."""
+    refusals = (one_price_short, without_quantity, dry)
+    for places in ((3, 4, 5), (0, 11, 23), (3, 3, 5), (3, 5, 5), (8, 8, 8)):
+        for order in itertools.permutations(refusals):
+            day = failing_day([(1, 1, 2)])
+            for hour, refusal in zip(places, order):
+                refusal(day.areas[0].hours[hour])
+            yield c_call_of(day)
+    # Three areas; only CISO can be dry.
+    for order in itertools.permutations(refusals):
+        shapes = [(1, 1, 2) if refusal == dry else SMALL for refusal in order]
+        day = failing_day(shapes)
+        for area, hour, refusal in zip(day.areas, (20, 10, 0), order):
+            refusal(area.hours[hour])
+        yield c_call_of(day)
 
 
 def c_call_random(rng):
@@ -1383,6 +1475,7 @@ GROUPS = (
     (PRICE, price_lengths),
     (PRICE, price_ranges),
     (PRICE, price_without_quantity),
+    (PRICE, price_counts),
     (PRICE, price_figures),
     (PRICE, price_random),
     (SHARE, share_rows),
@@ -1406,6 +1499,8 @@ GROUPS = (
     (SETTLE, settle_random),
     (C_CALL, c_call_rooms),
     (C_CALL, c_call_refused),
+    (C_CALL, c_call_prices_seen),
+    (C_CALL, c_call_order_of_hours),
     (C_CALL, c_call_random),
 )
 

@@ -35,6 +35,7 @@ static const char *reason(uint32_t number)
     case RSE8080_PRICE_WITHOUT_QUANTITY: return "an hour's price is needed, and no interval with a price has a quantity";
     case RSE8080_AMOUNT_WITHOUT_DEMAND: return "the CISO area has an amount in an hour without demand";
     case RSE8080_STATEMENT_TOO_SHORT: return "there is no room for its statement";
+    case RSE8080_TOO_FEW_INTERVALS: return "an hour's price is needed, and more than a quarter of its intervals have no price";
     default: return "of a rule that this program does not know";
     }
 }

@@ -17,8 +17,8 @@ use Rattle.surcharge.specs.Ranges.{TermsKept}
 use Rattle.surcharge.specs.Surcharge.{peakHour, onPeakOf, offPeakOf}
 use Rattle.amounts.specs.declared.Amounts.{Amounts}
 use Rattle.amounts.specs.Ranges.{AmountsRanged}
-use Rattle.amounts.specs.Amounts.{upwardAt, tierAt, dayTier, dayUpward, hubPrice, hourPrice, priceFrom, onPeakAmount, offPeakAmount}
-use Rattle.amounts.specs.Amounts.{downwardAmount, amountAt, amountsOf}
+use Rattle.amounts.specs.Amounts.{upwardAt, tierAt, dayTier, dayUpward, hubPrice, hourPrice, priceFrom, onPeakAtPrice, offPeakAtPrice}
+use Rattle.amounts.specs.Amounts.{onPeakAmount, offPeakAmount, downwardAmount, amountAt, amountsOf}
 use Rattle.surcharge.proofs.Sizes.{on-peak-small, off-peak-small, downward-small}
 use Rattle.amounts.proofs.Quantities as Q
 use Rattle.amounts.proofs.Hours.{hour-ranged, pairs-ranged, most-small, hub-small}
@@ -44,7 +44,7 @@ module _ (body : List ℕ) (sound : Sound plainPoints body) (h : ℕ) (below : h
     off-of = off-peak-small terms _ (tierAt body h) _ (Q.upward-small body (hourAt body h) (hour-ranged body sound h below)) price-small
 
     pub off-small : natAbs (offPeakAmount terms body h) ≤ 4000000000
-    unfolding offPeakAmount
+    unfolding offPeakAtPrice offPeakAmount
     off-small = where-made 4000000000 (eqb (flagOf body) 1 && not (peakHour terms h)) _ off-of
 
     module _ (kept : TermsKept terms) where
@@ -52,7 +52,7 @@ module _ (body : List ℕ) (sound : Sound plainPoints body) (h : ℕ) (below : h
       on-of = on-peak-small terms kept _ (most-small body sound terms) _ (dayTier terms body) (tierAt body h) _ (hub-small body sound) price-small
 
       pub on-small : natAbs (onPeakAmount terms body h) ≤ 7200000000
-      unfolding onPeakAmount
+      unfolding onPeakAtPrice onPeakAmount
       on-small = where-made 7200000000 (eqb (flagOf body) 1 && peakHour terms h) _ on-of
 
       -- an hour has an on-peak or an off-peak amount, never both
@@ -63,7 +63,7 @@ module _ (body : List ℕ) (sound : Sound plainPoints body) (h : ℕ) (below : h
       one-of false t on off p q = zero-le
 
       upward-small : natAbs (onPeakAmount terms body h +ℤ offPeakAmount terms body h) ≤ 7200000000
-      unfolding onPeakAmount offPeakAmount
+      unfolding onPeakAtPrice offPeakAtPrice onPeakAmount offPeakAmount
       upward-small = one-of (eqb (flagOf body) 1) (peakHour terms h) _ _ on-of off-of
 
       pub amount-small : natAbs (amountAt terms body h) ≤ mostAmount

@@ -15,7 +15,7 @@ use Rattle.surcharge.specs.declared.Terms.{Terms}
 use Rattle.amounts.specs.declared.Amounts.{Amounts}
 use Rattle.surcharge.specs.Surcharge.{peakHour, onPeakOf, offPeakOf, downwardOf, needsPrice}
 use Rattle.amounts.specs.Amounts.{downwardFrom, upwardAt, tierAt, dayTier, dayUpward, hubPrice, hourPrice, priceFrom, priceIf, dayFacts}
-use Rattle.amounts.specs.Amounts.{onPeakAmount, offPeakAmount, downwardAmount, amountsOf}
+use Rattle.amounts.specs.Amounts.{onPeakAtPrice, offPeakAtPrice, onPeakAmount, offPeakAmount, downwardAmount, amountsOf}
 use Rattle.surcharge.specs.Ranges.{DayRanged}
 use Rattle.amounts.specs.Ranges.{PairsRanged}
 use Rattle.surcharge.proofs.Unneeded.{on-unneeded, off-unneeded}
@@ -71,7 +71,7 @@ same e f g = rw (e, f, g)
 
 module _ (terms : Terms) (body : List ℕ) (h : ℕ) where
   pub without-flag : (flagOf body ≡ 1 → ⊥) → made (pos 0) (pos 0) (pos 0) ≡ amountsOf terms body h
-  unfolding amountsOf onPeakAmount offPeakAmount downwardAmount
+  unfolding amountsOf onPeakAtPrice offPeakAtPrice onPeakAmount offPeakAmount downwardAmount
   without-flag e = rw (ne-eqb (flagOf body) 1 e)
 
   module _ (flag : flagOf body ≡ 1) where
@@ -79,12 +79,12 @@ module _ (terms : Terms) (body : List ℕ) (h : ℕ) where
         → made (onPeakOf terms (dayUpward terms body) (hubPrice body) (dayTier terms body) (tierAt body h) (hourPrice body h)) (pos 0)
         (downwardOf terms (downwardFrom body (hourAt body h)) (mecAt body h))
         ≡ amountsOf terms body h
-    unfolding amountsOf onPeakAmount offPeakAmount downwardAmount
+    unfolding amountsOf onPeakAtPrice offPeakAtPrice onPeakAmount offPeakAmount downwardAmount
     in-peak e = rw (eq-eqb (flagOf body) 1 flag, e)
 
     pub outside-peak : peakHour terms h ≡ false
         → made (pos 0) (offPeakOf terms (upwardAt body h) (tierAt body h) (hourPrice body h))
         (downwardOf terms (downwardFrom body (hourAt body h)) (mecAt body h))
         ≡ amountsOf terms body h
-    unfolding amountsOf onPeakAmount offPeakAmount downwardAmount
+    unfolding amountsOf onPeakAtPrice offPeakAtPrice onPeakAmount offPeakAmount downwardAmount
     outside-peak e = rw (eq-eqb (flagOf body) 1 flag, e)

@@ -2,17 +2,17 @@
 use Prim.Native.Nat.{ℕ, zero, suc, _+_, _*_, max}
 use mathlib.Core.Bool.{Bool, cond, not, _&&_}
 use mathlib.Core.List.{List}
-use lib.Dec.{eqb}
+use lib.Dec.{eqb, leb}
 use lib.IntN.{ℤ, pos, _+ℤ_}
 use lib.ListN.{take, drop}
 use Rattle.words.specs.Word.{wordAt}
 use Rattle.limits.specs.Ranges.{dayHours}
 use Rattle.verdict.specs.declared.Verdict.{Verdict}
-use Rattle.verdict.specs.declared.Verdict.the-variants.{Accepted, PriceWithoutQuantity}
+use Rattle.verdict.specs.declared.Verdict.the-variants.{Accepted, PriceWithoutQuantity, TooFewIntervals}
 use Rattle.verdict.specs.First.{rule_else_then_}
 use Rattle.body.specs.Layout.{flagOf, hubPriceA, hubPriceB, pointsOf, hourAt, requirementAt, mecAt, intervalsAt}
 use Rattle.price.specs.declared.PriceAnswer.{PriceAnswer}
-use Rattle.price.specs.Price.{averagePrice, answerPrice, answerNumber}
+use Rattle.price.specs.Price.{averagePrice, answerPrice, answerNumber, answerCount}
 use Rattle.surcharge.specs.declared.Terms.{Terms}
 use Rattle.surcharge.specs.declared.Day.{Day}
 use Rattle.surcharge.specs.Surcharge.{peakHour, tierOf, greaterPrice, onPeakOf, offPeakOf, downwardOf, needsPrice}
@@ -65,14 +65,21 @@ module _ (terms : Terms) (body : List ℕ) where
   abbrev pub dayUpward : ℕ
   dayUpward = highest terms (upwardAt body) dayHours
 
-  -- the three amounts; "All amounts of an area with EDAM flag 0 are 0"
+  -- the amounts of an hour at a price; "All amounts of an area with EDAM flag 0 are 0"
+  unfoldable pub onPeakAtPrice : ℕ → ℤ → ℤ
+  onPeakAtPrice h price =
+      cond (eqb (flagOf body) 1 && peakHour terms h) (onPeakOf terms dayUpward (hubPrice body) dayTier (tierAt body h) price) (pos 0)
+
+  unfoldable pub offPeakAtPrice : ℕ → ℤ → ℤ
+  offPeakAtPrice h price =
+      cond (eqb (flagOf body) 1 && not (peakHour terms h)) (offPeakOf terms (upwardAt body h) (tierAt body h) price) (pos 0)
+
+  -- the three amounts, at the hour's own price
   unfoldable pub onPeakAmount : ℕ → ℤ
-  onPeakAmount h =
-      cond (eqb (flagOf body) 1 && peakHour terms h) (onPeakOf terms dayUpward (hubPrice body) dayTier (tierAt body h) (hourPrice body h)) (pos 0)
+  onPeakAmount h = onPeakAtPrice h (hourPrice body h)
 
   unfoldable pub offPeakAmount : ℕ → ℤ
-  offPeakAmount h =
-      cond (eqb (flagOf body) 1 && not (peakHour terms h)) (offPeakOf terms (upwardAt body h) (tierAt body h) (hourPrice body h)) (pos 0)
+  offPeakAmount h = offPeakAtPrice h (hourPrice body h)
 
   unfoldable pub downwardAmount : ℕ → ℤ
   downwardAmount h = cond (eqb (flagOf body) 1) (downwardOf terms (downwardFrom body (hourAt body h)) (mecAt body h)) (pos 0)
@@ -86,13 +93,18 @@ module _ (terms : Terms) (body : List ℕ) where
 
 -- ---- what a price that is needed must keep
 
--- "a needed price has no quantity under it": an answer that can be settled with, at its place in the file
-abbrev pub usableRule : ℕ → PriceAnswer → Verdict
-usableRule place answer = rule not (eqb (answerNumber answer) 11) else PriceWithoutQuantity place then Accepted
+-- whether a price that is needed, of L load points, can be settled with: not "with fewer than 9L present of its 12L" and, after that, not where it "has no
+-- quantity under it"; `place` is its place in the file
+abbrev pub usableRule : (place points : ℕ) → PriceAnswer → Verdict
+usableRule place points answer =
+    rule leb (9 * points) (answerCount answer) else TooFewIntervals place then
+    rule not (eqb (answerNumber answer) 11) else PriceWithoutQuantity place then
+    Accepted
 
 -- of hour h, in the body that starts at word `start` of the file: "first interval word of the hour"
 unfoldable pub priceRule : Terms → (start : ℕ) → List ℕ → ℕ → Verdict
-priceRule terms start body h = cond (priceNeeded terms body h) (usableRule (start + intervalsAt body h) (priceAnswerAt body h)) Accepted
+priceRule terms start body h =
+    cond (priceNeeded terms body h) (usableRule (start + intervalsAt body h) (pointsOf body) (priceAnswerAt body h)) Accepted
 
 -- ---- the same as the structs of the code
 

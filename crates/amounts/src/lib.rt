@@ -203,10 +203,14 @@ pub fn amount_of(amounts: Amounts) -> Cents
     on.plus(off).plus(down)
 }
 
-// Whether a needed price can be settled with. Its first interval word is at `place` of the file.
-fn usable(place: usize, answer: PriceAnswer) -> Verdict
-    ensures { λ r. ⌜ r ≡ usableRule place answer ⌝ }
+// Whether a needed price of `load` load points can be settled with. Its first interval word is at `place` of the file.
+fn usable(place: usize, load: usize, answer: PriceAnswer) -> Verdict
+    requires { ⌜ load ≤ plainPoints ⌝ }
+    ensures { λ r. ⌜ r ≡ usableRule place load answer ⌝ }
 {
+    if (price::count_of(answer) as usize) < 9 * load {
+        return Verdict::TooFewIntervals { place };
+    }
     if price::number(answer) == 11 {
         return Verdict::PriceWithoutQuantity { place };
     }
@@ -236,5 +240,5 @@ pub fn check_price(
         return Verdict::Accepted;
     }
     let load = words::word(body, 5) as usize;
-    usable(start + (at + 8), hour_price(body, load, at + 8))
+    usable(start + (at + 8), load, hour_price(body, load, at + 8))
 }

@@ -97,7 +97,7 @@ module _ (body body′ : List ℕ) (alike : Alike body body′) where
       price-there : (start : ℕ) → priceRule terms start body g ≡ priceRule terms start body′ g
       unfolding priceRule
       price-there start =
-          ap (λ w. cond (priceNeeded terms body g) (usableRule (start + (w + 8)) (priceAnswerAt body g)) Accepted) (at g)
+          ap (λ w. cond (priceNeeded terms body g) (usableRule (start + (w + 8)) (pointsOf body) (priceAnswerAt body g)) Accepted) (at g)
           ∙ sym (price-rule-same body body′ same terms g below start)
 
       -- what the hour refuses

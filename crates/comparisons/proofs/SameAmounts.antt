@@ -21,7 +21,7 @@ use Rattle.surcharge.specs.declared.Terms.{Terms}
 use Rattle.amounts.proofs.Prices.{anywhere}
 use Rattle.surcharge.specs.Surcharge.{peakHour, greaterPrice}
 use Rattle.amounts.specs.Amounts.{highest, upwardFrom, downwardFrom, upwardAt, tierAt, dayTier, dayUpward, hubPrice, priceFrom, priceAnswerAt}
-use Rattle.amounts.specs.Amounts.{onPeakAmount, offPeakAmount, downwardAmount, amountAt, priceNeeded, usableRule, priceRule}
+use Rattle.amounts.specs.Amounts.{onPeakAtPrice, offPeakAtPrice, onPeakAmount, offPeakAmount, downwardAmount, amountAt, priceNeeded, usableRule, priceRule}
 
 pub record SameAmounts (body other : List ℕ) : Type 0 where
   -- kind, EDAM flag, persistent days, hub prices, load points
@@ -111,11 +111,11 @@ module _ (body other : List ℕ) (same : SameAmounts body other) where
 
     module _ (h : ℕ) (below : h < dayHours) where
       pub on-peak-same : onPeakAmount terms other h ≡ onPeakAmount terms body h
-      unfolding onPeakAmount
+      unfolding onPeakAtPrice onPeakAmount
       on-peak-same = rw (flag-same, day-upward-same, hub-same, day-tier-same, tier-same h below, price-same h below)
 
       pub off-peak-same : offPeakAmount terms other h ≡ offPeakAmount terms body h
-      unfolding offPeakAmount
+      unfolding offPeakAtPrice offPeakAmount
       off-peak-same = rw (flag-same, upward-same h below, tier-same h below, price-same h below)
 
       pub downward-same : downwardAmount terms other h ≡ downwardAmount terms body h
@@ -132,12 +132,12 @@ module _ (body other : List ℕ) (same : SameAmounts body other) where
 
       -- what the price refuses, but for where it stands
       pub price-rule-same : (start : ℕ)
-          → priceRule terms start other h ≡ cond (priceNeeded terms body h) (usableRule (start + intervalsAt other h) (priceAnswerAt body h)) Accepted
+          → priceRule terms start other h ≡ cond (priceNeeded terms body h) (usableRule (start + intervalsAt other h) (pointsOf body) (priceAnswerAt body h)) Accepted
       unfolding priceRule
-      price-rule-same start = rw (needed-same, price-same h below)
+      price-rule-same start = rw (needed-same, price-same h below, points-same)
 
       pub priced-same : (start : ℕ) → numberOf (priceRule terms start other h) ≡ numberOf (priceRule terms start body h)
       unfolding priceRule
       priced-same start =
           ap numberOf (price-rule-same start)
-          ∙ anywhere (priceNeeded terms body h) (start + intervalsAt other h) (start + intervalsAt body h) (priceAnswerAt body h)
+          ∙ anywhere (priceNeeded terms body h) (start + intervalsAt other h) (start + intervalsAt body h) (pointsOf body) (priceAnswerAt body h)

@@ -54,10 +54,10 @@ pub record Figures : Type 0 where
   pub T8 : (terms : Terms) → ((mec : ℤ) → downwardOf terms 10000 mec ≡ pos 0) × (downwardOf terms 10001 (negℤ (pos 1000000)) ≡ negℤ (pos 100010))
   -- W 12.500 at -0.01: -$0.13; at +40: 0; d is not asked
   pub T9 : (terms : Terms) → (downwardOf terms 12500 (negℤ (pos 100)) ≡ negℤ (pos 13)) × (downwardOf terms 12500 (pos 400000) ≡ pos 0)
-  -- 100 MWh at 30 and 300 at 50, ten missing: 45.0000
-  pub T10 : answerOf (averageOver emptyAverage intervals) ≡ Price (record { 0 = pos 450000 })
+  -- 100 MWh at 30 and 300 at 50, ten missing: 45.0000, "with count 2"
+  pub T10 : answerOf (averageOver emptyAverage intervals) ≡ Price (record { 0 = pos 450000 }) 2
   -- the same by the price call, over the 96 bytes of that hour
-  pub T10-bytes : (firstIntervals hourBytes 12 ≡ intervals) × (loadWeighted hourBytes ≡ Price (record { 0 = pos 450000 }))
+  pub T10-bytes : (firstIntervals hourBytes 12 ≡ intervals) × (loadWeighted hourBytes ≡ Price (record { 0 = pos 450000 }) 2)
   -- 100 cents over 1, 1, 1: 33, 34, 33
   pub T11 : shares (pos 100) (1 ∷ 1 ∷ 1 ∷ []) ≡ pos 33 ∷ pos 34 ∷ pos 33 ∷ []
   -- the first two merged: 67, 33; merged as demands, which are then 2 and 1, and as charges
@@ -68,5 +68,5 @@ pub record Figures : Type 0 where
   pub T11-negated : shares (negℤ (pos 100)) (1 ∷ 1 ∷ 1 ∷ []) ≡ negℤ (pos 33) ∷ negℤ (pos 34) ∷ negℤ (pos 33) ∷ []
   -- 1 cent over 1, 0, 1: 1, 0, 0
   pub T12 : shares (pos 1) (1 ∷ 0 ∷ 1 ∷ []) ≡ pos 1 ∷ pos 0 ∷ pos 0 ∷ []
-  -- Case P, an off-peak hour: U 40 with Q 60 MW is tier 3, and at 25 its amount $2,000.00; d is not asked
+  -- Case P's numbers, an off-peak hour: U 40 with Q 60 MW is tier 3, and at 25 its amount $2,000.00; d is not asked
   pub case-P : (terms : Terms) → (tierOf 40000 60000 ≡ 3) × (offPeakOf terms 40000 (tierOf 40000 60000) (pos 250000) ≡ pos 200000)

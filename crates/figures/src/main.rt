@@ -14,10 +14,6 @@ const REQUIREMENT: u8 = 6;
 
 const MEC: u8 = 7;
 
-const QUANTITY: u8 = 8;
-
-const PRICE: u8 = 9;
-
 // The words of the longest body of edition 1.
 const LONGEST_BODY: u32 = 2951;
 
@@ -75,19 +71,21 @@ fn put_area(day: [u8; ROOM], days: u32, hub_a: u32, hub_b: u32) -> [u8; ROOM] {
     put(day, 14, 12)
 }
 
-fn put_missing(before: [u8; ROOM], hour: u8) -> [u8; ROOM] {
-    let mut day = before;
-    let mut interval: usize = 0;
-    while interval < 12 {
-        let next = put(
-            day,
-            24 + 33 * (hour as usize) + 2 * interval,
-            limits::MISSING_PRICE,
-        );
-        day = next;
+// So many interval pairs alike, from a word on.
+fn put_pairs(before: [u8; ROOM], at: u16, count: u8, quantity: u32, price: u32) -> [u8; ROOM] {
+    let mut pairs = before;
+    let mut interval: u8 = 0;
+    while interval < count {
+        let word = (at as usize) + 2 * (interval as usize);
+        let next = put(put(pairs, word, quantity), word + 1, price);
+        pairs = next;
         interval += 1;
     }
-    day
+    pairs
+}
+
+fn first_interval(hour: u8) -> u16 {
+    23 + 33 * (hour as u16)
 }
 
 // A day without deficiencies, every price missing.
@@ -100,7 +98,7 @@ fn quiet_day(peak: u32, days: u32, hub_a: u32, hub_b: u32) -> [u8; ROOM] {
     );
     let mut hour: u8 = 0;
     while (hour as usize) < limits::DAY_HOURS {
-        let next = put_missing(day, hour);
+        let next = put_pairs(day, first_interval(hour), 12, 0, limits::MISSING_PRICE);
         day = next;
         hour += 1;
     }
@@ -108,8 +106,7 @@ fn quiet_day(peak: u32, days: u32, hub_a: u32, hub_b: u32) -> [u8; ROOM] {
 }
 
 fn put_price(day: [u8; ROOM], hour: u8, price: u32) -> [u8; ROOM] {
-    let day = set(day, hour, QUANTITY, 1000);
-    set(day, hour, PRICE, price)
+    put_pairs(day, first_interval(hour), 12, 1000, price)
 }
 
 fn put_deficiency(day: [u8; ROOM], hour: u8, upward: u32, requirement: u32) -> [u8; ROOM] {
@@ -177,7 +174,7 @@ fn failed_day() -> [u8; ROOM] {
 
 fn passed(label: &[u8], price: u32) {
     let day = failed_day();
-    let day = set(day, 9, PRICE, price);
+    let day = put_price(day, 9, price);
     settled(label, day, 9);
 }
 
@@ -197,7 +194,7 @@ fn on_peak() {
 fn day_of_tier_1() {
     let day = failed_day();
     let day = set(day, 7, UPWARD, 5000);
-    let day = set(day, 9, PRICE, minus(50000));
+    let day = put_price(day, 9, minus(50000));
     settled(
         b"Day of tier 1, passed hour at -5 (no credit out of nothing):",
         day,
@@ -236,26 +233,17 @@ fn downwards() {
     downward(b"T9 W 12.500 at MEC 40:", 12500, 400000);
 }
 
-fn put_last_ten(before: [u8; ROOM], quantity: u32, price: u32) -> [u8; ROOM] {
-    let mut pairs = before;
-    let mut interval: usize = 2;
-    while interval < 12 {
-        let next = put(put(pairs, 2 * interval, quantity), 2 * interval + 1, price);
-        pairs = next;
-        interval += 1;
-    }
-    pairs
-}
-
-// 100 MWh at 30 and 300 at 50, and ten more intervals of the given quantity and price.
+// 100 MWh at 30 and 300 at 50, and ten more intervals of the given quantity and price: the price, and how many intervals have one.
 fn averaged(label: &[u8], quantity: u32, price: u32) {
-    let first = put(put([0u8; ROOM], 0, 100000), 1, 300000);
-    let second = put(put(first, 2, 300000), 3, 500000);
-    let pairs = put_last_ten(second, quantity, price);
+    let first = put_pairs([0u8; ROOM], 0, 1, 100000, 300000);
+    let second = put_pairs(first, 2, 1, 300000, 500000);
+    let pairs = put_pairs(second, 4, 10, quantity, price);
     let answer = price::load_weighted(&pairs[0..96]);
     show::text(label);
     show::space();
     show::signed_word(price::price_of(answer));
+    show::space();
+    show::unsigned(price::count_of(answer) as u64);
     show::end();
 }
 
@@ -322,11 +310,19 @@ fn sharing() {
     );
 }
 
-fn case_p() {
+// Case P has a price in one interval of its hour ending 3.
+fn case_p_seen(label: &[u8], count: u8) -> [u8; ROOM] {
     let day = quiet_day(limits::PEAK_WORD, 0, 0, 0);
     let day = put_deficiency(day, 2, 40000, 60000);
-    let day = put_price(day, 2, 250000);
-    settled(b"Case P, 807 words, hour ending 3:", day, 2);
+    let day = put_pairs(day, first_interval(2), count, 1000, 250000);
+    settled(label, day, 2);
+    day
+}
+
+fn case_p() {
+    let day = case_p_seen(b"Case P, 807 words, hour ending 3, one price of twelve:", 1);
+    case_p_seen(b"The same with eight prices:", 8);
+    case_p_seen(b"The same with nine prices:", 9);
     show::text(b"Area 7 of case P, in bytes: ");
     show::unsigned(dayfile::body_of(&day[0..DAY_BYTES], 7).len() as u64);
     show::text(b"; area 8: ");

@@ -24,11 +24,12 @@ use Rattle.price.specs.Ranged.{Ranged}
 use Rattle.price.proofs.Sizes.{Sized, average-sized}
 
 module _ (average : Average) where
-  pub no-quantity : average .quantity .0 ≡ 0 → NoQuantity ≡ answerOf average
+  pub no-quantity : average .quantity .0 ≡ 0 → NoQuantity (average .count) ≡ answerOf average
   unfolding answerOf
   no-quantity e = simp (eq-eqb _ _ e)
 
-  pub some-quantity : (average .quantity .0 ≡ 0 → ⊥) → Price (record { 0 = roundDiv (average .value .0) (average .quantity .0) }) ≡ answerOf average
+  pub some-quantity : (average .quantity .0 ≡ 0 → ⊥)
+      → Price (record { 0 = roundDiv (average .value .0) (average .quantity .0) }) (average .count) ≡ answerOf average
   unfolding answerOf
   some-quantity e = simp (ne-eqb _ _ e)
 

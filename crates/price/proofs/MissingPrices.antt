@@ -32,7 +32,7 @@ unfolding averageOver
 over-append average [] last = refl
 over-append average (interval ∷ rest) last = over-append (withInterval average (interval .0) (interval .1)) rest last
 
-as-list : (pairs : List ℕ) (n : ℕ) → averageOf pairs n ≡ averageOver emptyAverage (firstIntervals pairs n)
+pub as-list : (pairs : List ℕ) (n : ℕ) → averageOf pairs n ≡ averageOver emptyAverage (firstIntervals pairs n)
 unfolding averageOf averageOver firstIntervals
 as-list pairs zero = refl
 as-list pairs (suc n) =

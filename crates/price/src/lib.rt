@@ -8,20 +8,21 @@ ghost use lib.IntN.{natAbs};
 ghost use lib.ListN.{length};
 ghost use Rattle.limits.specs.Ranges.{mostQuantity, plainPoints, plainIntervals};
 ghost use Rattle.price.specs.Price.{emptyAverage, withInterval, averageOf, averagePrice, loadWeightedWithin, loadWeighted, answerNumber};
-ghost use Rattle.price.specs.Price.{answerPlace, answerPrice};
+ghost use Rattle.price.specs.Price.{answerPlace, answerPrice, answerCount};
 ghost use Rattle.price.specs.Ranged.{Ranged};
 
-// The sum of quantity × price over the intervals whose price is present, and the sum of the same quantities.
+// The sum of quantity × price over the intervals whose price is present, the sum of the same quantities, and how many these intervals are.
 pub struct Average {
     pub value: CentsOver100000,
     pub quantity: Quantity,
+    pub count: u32,
 }
 
 pub enum PriceAnswer {
-    Price(MarketPrice),
+    Price { price: MarketPrice, count: u32 },
     BadLength,
     OutOfRange { pair: usize },
-    NoQuantity,
+    NoQuantity { count: u32 },
 }
 
 impl Average {
@@ -31,12 +32,14 @@ impl Average {
         Average {
             value: CentsOver100000(0),
             quantity: Quantity(0),
+            count: 0,
         }
     }
 
     // One interval more: a missing price leaves its quantity out too.
     pub fn with_interval(mut self, quantity: u32, price: u32) -> Average
-        requires { ⌜ (natAbs (self .value .0) ≤ 2 ^ 62) × ((quantity ≤ mostQuantity) × (self .quantity .0 + quantity < 2 ^ 32)) ⌝ }
+        requires { ⌜ (natAbs (self .value .0) ≤ 2 ^ 62) × (quantity ≤ mostQuantity) ⌝ }
+        requires { ⌜ (self .quantity .0 + quantity < 2 ^ 32) × (self .count + 1 < 2 ^ 32) ⌝ }
         ensures { λ r. ⌜ r ≡ withInterval self quantity price ⌝ }
     {
         if price == limits::MISSING_PRICE {
@@ -47,6 +50,7 @@ impl Average {
         let more = Quantity(quantity);
         self.value = value.plus(more.at_market_price(MarketPrice(words::signed(price))));
         self.quantity = sum.plus(more);
+        self.count += 1;
         self
     }
 }
@@ -76,9 +80,14 @@ pub fn average_price(pairs: &[u8], n: usize) -> PriceAnswer
     let quantity = average.quantity;
     let value = average.value;
     if quantity.0 == 0 {
-        return PriceAnswer::NoQuantity;
+        return PriceAnswer::NoQuantity {
+            count: average.count,
+        };
     }
-    PriceAnswer::Price(value.per(quantity))
+    PriceAnswer::Price {
+        price: value.per(quantity),
+        count: average.count,
+    }
 }
 
 // The price of an hour with one to `most` load points.
@@ -117,10 +126,10 @@ pub fn number(answer: PriceAnswer) -> u32
     ensures { λ r. ⌜ r ≡ answerNumber answer ⌝ }
 {
     match answer {
-        PriceAnswer::Price(_) => 0,
+        PriceAnswer::Price { price: _, count: _ } => 0,
         PriceAnswer::BadLength => 1,
         PriceAnswer::OutOfRange { pair: _ } => 9,
-        PriceAnswer::NoQuantity => 11,
+        PriceAnswer::NoQuantity { count: _ } => 11,
     }
 }
 
@@ -129,10 +138,10 @@ pub fn place(answer: PriceAnswer) -> usize
     ensures { λ r. ⌜ r ≡ answerPlace answer ⌝ }
 {
     match answer {
-        PriceAnswer::Price(_) => 0,
+        PriceAnswer::Price { price: _, count: _ } => 0,
         PriceAnswer::BadLength => 0,
         PriceAnswer::OutOfRange { pair } => pair,
-        PriceAnswer::NoQuantity => 0,
+        PriceAnswer::NoQuantity { count: _ } => 0,
     }
 }
 
@@ -141,9 +150,21 @@ pub fn price_of(answer: PriceAnswer) -> i32
     ensures { λ r. ⌜ r ≡ answerPrice answer ⌝ }
 {
     match answer {
-        PriceAnswer::Price(price) => price.0,
+        PriceAnswer::Price { price, count: _ } => price.0,
         PriceAnswer::BadLength => 0,
         PriceAnswer::OutOfRange { pair: _ } => 0,
-        PriceAnswer::NoQuantity => 0,
+        PriceAnswer::NoQuantity { count: _ } => 0,
+    }
+}
+
+// How many intervals have a price; 0 for a refusal for length or range.
+pub fn count_of(answer: PriceAnswer) -> u32
+    ensures { λ r. ⌜ r ≡ answerCount answer ⌝ }
+{
+    match answer {
+        PriceAnswer::Price { price: _, count } => count,
+        PriceAnswer::BadLength => 0,
+        PriceAnswer::OutOfRange { pair: _ } => 0,
+        PriceAnswer::NoQuantity { count } => count,
     }
 }

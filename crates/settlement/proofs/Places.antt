@@ -11,7 +11,7 @@ use lib.ListN.{length}
 use Rattle.limits.specs.Ranges.{dayHours, mostCoordinators}
 use Rattle.limits.proofs.Editions.{areas-most, bytes-most}
 use Rattle.verdict.specs.declared.Verdict.{Verdict}
-use Rattle.verdict.specs.declared.Verdict.the-variants.{Accepted, PriceWithoutQuantity, AmountWithoutDemand, RoomTooShort}
+use Rattle.verdict.specs.declared.Verdict.the-variants.{Accepted, PriceWithoutQuantity, AmountWithoutDemand, RoomTooShort, TooFewIntervals}
 use Rattle.verdict.specs.Verdict.{numberOf, placeOf}
 use Rattle.verdict.proofs.Accepted.{accepted-place}
 use Rattle.verdict.proofs.First.{Holds, rule-holds, or-holds, scan-holds}
@@ -23,7 +23,7 @@ use Rattle.dayfile.specs.Ciso.{cisoBefore}
 use Rattle.dayfile.specs.Check.{checkOf}
 use Rattle.dayfile.proofs.Facts.{file-length, file-head, file-entry, file-one-ciso, body-length}
 use Rattle.acceptance.proofs.Acceptance.{first-broken, length-exactly}
-use Rattle.price.specs.Price.{answerNumber}
+use Rattle.price.specs.Price.{answerNumber, answerCount}
 use Rattle.surcharge.specs.declared.Terms.{Terms}
 use Rattle.amounts.specs.Amounts.{priceAnswerAt, priceNeeded, priceRule}
 use Rattle.statement.specs.Block.{areaNumbers}
@@ -91,8 +91,9 @@ module _ (file : List ℕ) (accepted : numberOf (checkOf file) ≡ 0) where
         let end = hour-end h p in
         or-holds Small _ _
         (if-small (priceNeeded terms body h) _
-        (rule-holds Small (not (eqb (answerNumber (priceAnswerAt body h)) 11)) (PriceWithoutQuantity (start + intervalsAt body h)) Accepted (λ e. omega arith)
-        (λ e. accepted-small)))
+        (rule-holds Small (leb (9 * pointsOf body) (answerCount (priceAnswerAt body h))) (TooFewIntervals (start + intervalsAt body h)) _ (λ e. omega arith)
+        (λ e. rule-holds Small (not (eqb (answerNumber (priceAnswerAt body h)) 11)) (PriceWithoutQuantity (start + intervalsAt body h)) Accepted
+        (λ e. omega arith) (λ e. accepted-small))))
         (λ z. rule-holds Small (chargeable terms body h) (AmountWithoutDemand (start + demandsAt body h)) _ (λ e. omega arith) (λ e. accepted-small))
 
     hours-small : Holds Small (hoursRefusal terms start body)

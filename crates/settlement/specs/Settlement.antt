@@ -47,7 +47,7 @@ chargeable terms body h = not (eqb (kindOf body) 1) || (eqb (natAbs (amountAt te
 unfoldable pub chargeRule : Terms → (start : ℕ) → List ℕ → ℕ → Verdict
 chargeRule terms start body h = rule chargeable terms body h else AmountWithoutDemand (start + demandsAt body h) then Accepted
 
--- "11 before 12"
+-- its price, 16 and 11, then its charge, 12
 unfoldable pub hourRefusal : Terms → (start : ℕ) → List ℕ → ℕ → Verdict
 hourRefusal terms start body h = priceRule terms start body h orElse chargeRule terms start body h
 

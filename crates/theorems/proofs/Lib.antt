@@ -3,7 +3,8 @@ pub mod Settled
 pub mod SettledExactly
 pub mod SettledOrUntouched
 pub mod EveryNumber
-pub mod ElevenOrTwelve
+pub mod HourRefusals
+pub mod PricesSeen
 pub mod AddsUp
 pub mod Demands
 pub mod WithinACent

@@ -5,6 +5,7 @@ use mathlib.Core.List.{List}
 use mathlib.Core.Logic.{_⊎_}
 use mathlib.Core.Path.{_≡_}
 use lib.IntN.{natAbs}
+use lib.ListN.{length}
 use Rattle.exact.specs.Total.{total}
 use Rattle.limits.specs.Ranges.{dayHours}
 use Rattle.verdict.specs.declared.Verdict.{Verdict}
@@ -16,6 +17,7 @@ use Rattle.dayfile.specs.Check.{checkOf}
 use Rattle.price.specs.Price.{averageOf}
 use Rattle.amounts.specs.Amounts.{pairsFrom, amountAt, priceNeeded}
 use Rattle.settlement.specs.Settlement.{numbersNeeded, hourRefusal, termsBy}
+use Rattle.theorems.specs.Seen.{presentAt}
 
 abbrev pub Refuses : Verdict → Type 0
 Refuses verdict = numberOf verdict ≡ 0 → ⊥
@@ -62,9 +64,17 @@ RefusedWith d file room answer = CheckRefuses file answer ⊎ (RoomShort file ro
 -- ---- why an hour is refused, with no order of tests
 
 module _ (d : ℕ → List ℕ → ℕ) (file : List ℕ) where
-  -- "a needed price has no quantity under it"
+  -- "A needed price with fewer than 9L present of its 12L"
+  abbrev pub TooFewSeen : ℕ → ℕ → Type 0
+  TooFewSeen k h =
+      let body = bodyAt file k in
+      (priceNeeded (termsBy d file k) body h ≡ true) × (length (presentAt body h) < 9 * pointsOf body)
+
+  -- "enough prices with no quantity"
   abbrev pub PriceWithout : ℕ → ℕ → Type 0
-  PriceWithout k h = (priceNeeded (termsBy d file k) (bodyAt file k) h ≡ true) × (quantityUnder (bodyAt file k) h ≡ 0)
+  PriceWithout k h =
+      let body = bodyAt file k in
+      (priceNeeded (termsBy d file k) body h ≡ true) × (9 * pointsOf body ≤ length (presentAt body h)) × (quantityUnder body h ≡ 0)
 
   -- "kind 1, A not 0, T = 0"
   abbrev pub NobodyToCharge : ℕ → ℕ → Type 0

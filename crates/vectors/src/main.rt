@@ -71,6 +71,8 @@ fn price(pairs: &[u8]) {
     show::unsigned(price::place(answer) as u64);
     show::space();
     show::signed_word(price::price_of(answer));
+    show::space();
+    show::unsigned(price::count_of(answer) as u64);
     show::end();
 }
 

@@ -4,7 +4,7 @@ use native.Mathlib.Omega.{arith}
 use Rattle.verdict.specs.declared.Verdict.{Verdict}
 use Rattle.verdict.specs.declared.Verdict.the-variants.{Accepted, BadLength, BadEdition, BadAreaCount, BadDate, BadPeakHours, BadContents}
 use Rattle.verdict.specs.declared.Verdict.the-variants.{BadBodyHead, BadCoordinator, OutOfRange, RunningDemandTooLarge, PriceWithoutQuantity}
-use Rattle.verdict.specs.declared.Verdict.the-variants.{AmountWithoutDemand, RoomTooShort, AmountBeyondRange}
+use Rattle.verdict.specs.declared.Verdict.the-variants.{AmountWithoutDemand, RoomTooShort, AmountBeyondRange, TooFewIntervals}
 use Rattle.verdict.specs.Verdict.{numberOf, placeOf}
 
 pub accepted-place : (verdict : Verdict) → numberOf verdict ≡ 0 → placeOf verdict ≡ 0
@@ -23,3 +23,4 @@ accepted-place (PriceWithoutQuantity place) z = absurd (omega arith)
 accepted-place (AmountWithoutDemand place) z = absurd (omega arith)
 accepted-place (RoomTooShort needed) z = absurd (omega arith)
 accepted-place AmountBeyondRange z = refl
+accepted-place (TooFewIntervals place) z = absurd (omega arith)

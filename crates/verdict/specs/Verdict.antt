@@ -3,7 +3,7 @@ use Prim.Native.Nat.{ℕ}
 use Rattle.verdict.specs.declared.Verdict.{Verdict}
 use Rattle.verdict.specs.declared.Verdict.the-variants.{Accepted, BadLength, BadEdition, BadAreaCount, BadDate, BadPeakHours, BadContents}
 use Rattle.verdict.specs.declared.Verdict.the-variants.{BadBodyHead, BadCoordinator, OutOfRange, RunningDemandTooLarge, PriceWithoutQuantity}
-use Rattle.verdict.specs.declared.Verdict.the-variants.{AmountWithoutDemand, RoomTooShort, AmountBeyondRange}
+use Rattle.verdict.specs.declared.Verdict.the-variants.{AmountWithoutDemand, RoomTooShort, AmountBeyondRange, TooFewIntervals}
 
 abbrev pub numberOf : Verdict → ℕ
 numberOf Accepted = 0
@@ -21,6 +21,7 @@ numberOf (PriceWithoutQuantity place) = 11
 numberOf (AmountWithoutDemand place) = 12
 numberOf (RoomTooShort needed) = 13
 numberOf AmountBeyondRange = 15
+numberOf (TooFewIntervals place) = 16
 
 abbrev pub placeOf : Verdict → ℕ
 placeOf Accepted = 0
@@ -38,3 +39,4 @@ placeOf (PriceWithoutQuantity place) = place
 placeOf (AmountWithoutDemand place) = place
 placeOf (RoomTooShort needed) = needed
 placeOf AmountBeyondRange = 0
+placeOf (TooFewIntervals place) = place

@@ -19,6 +19,7 @@ pub enum Verdict {
     AmountWithoutDemand { place: usize },
     RoomTooShort { needed: usize },
     AmountBeyondRange,
+    TooFewIntervals { place: usize },
 }
 
 // The number of the refusal (docs/RULES.md, section 10); 0 where nothing is refused.
@@ -41,6 +42,7 @@ pub fn number(verdict: Verdict) -> u32
         Verdict::AmountWithoutDemand { place: _ } => 12,
         Verdict::RoomTooShort { needed: _ } => 13,
         Verdict::AmountBeyondRange => 15,
+        Verdict::TooFewIntervals { place: _ } => 16,
     }
 }
 
@@ -64,5 +66,6 @@ pub fn place(verdict: Verdict) -> usize
         Verdict::AmountWithoutDemand { place } => place,
         Verdict::RoomTooShort { needed } => needed,
         Verdict::AmountBeyondRange => 0,
+        Verdict::TooFewIntervals { place } => place,
     }
 }

@@ -5,6 +5,8 @@ use mathlib.Core.Bool.{true}
 use mathlib.Core.Path.{_≡_, ap, ap₂, _∙_}
 use native.Mathlib.Omega.{arith}
 use borrow.Author.Tests.{not-true, not-false}
+use Rattle.body.specs.Layout.{pointsOf}
+use Rattle.body.proofs.Kept.{always}
 use Rattle.amounts.specs.Amounts.{tierAt, hourFacts, priceFrom, priceNeeded, usableRule, priceRule}
 use Rattle.amounts.specs.Ranges.{HourRanged}
 use Rattle.amounts.proofs.Hours.{hour-tier, hour-ranged, pairs-ranged}
@@ -57,6 +59,11 @@ hour-price-requires c κs =
     let s = c .before .before .before .before .before .before .before in
     rw (c .word2 .ensures, s .pre .0 .here) (pairs-ranged (now (s .args .body)) (s .pre .0 .sound) (s .args .h) (s .pre .0 .below))
 
+usable-requires : tie.Need-usable-requires
+usable-requires c κs =
+    let s = c .before .before .before .before .before .before .before .before in
+    rw (c .before .word2 .ensures) (s .pre .0 .sound .points always .1)
+
 returns-2 : tie.Need-returns-2
 unfolding priceRule
 returns-2 c =
@@ -64,11 +71,13 @@ returns-2 c =
     let s = n .before .before .before .before .before in
     let b = now (s .args .body) in
     c .usable .ensures
-    ∙ ap₂ usableRule (ap (λ at. s .args .start + (at + 8)) (s .pre .0 .here))
+    ∙ ap (λ points. usableRule (s .args .start + (s .args .at + 8)) points (c .before .hour-price .result)) (c .before .before .word2 .ensures)
+    ∙ ap₂ (λ place answer. usableRule place (pointsOf b) answer)
+    (ap (λ at. s .args .start + (at + 8)) (s .pre .0 .here))
     (c .before .hour-price .ensures ∙ ap (λ at. priceFrom b (at + 8)) (s .pre .0 .here))
     ∙ rw (← needed-is n, not-false (n .price-needed .result) (c .before .before .before .if1 .left))
 
 pub check-price-spec : {M : Type 1} → statement M
 check-price-spec =
     tie.close (tie.spec hour-facts-requires word-requires (λ c κs. search needs) (λ c κs. search needs) returns word-requires-2 (λ c. search needs)
-    add-usable add-usable-2 add-hour-price hour-price-requires (λ c κs. search needs) returns-2)
+    add-usable add-usable-2 add-hour-price hour-price-requires usable-requires returns-2)

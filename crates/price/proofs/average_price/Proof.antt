@@ -35,7 +35,7 @@ per-requires c κs =
 returns-2 : tie.Need-returns-2
 returns-2 c =
     let a = c .before .before .before .before .before .averaged in
-    ap (λ z. Price (record { 0 = z })) (c .per .ensures) ∙ some-quantity (a .result) (c .before .if1 .left) ∙ ap answerOf (a .ensures)
+    ap (λ z. Price (record { 0 = z }) (a .result .count)) (c .per .ensures) ∙ some-quantity (a .result) (c .before .if1 .left) ∙ ap answerOf (a .ensures)
 
 pub average-price-spec : {M : Type 1} → statement M
 average-price-spec = tie.close (tie.spec (λ c κs. search needs) returns per-requires returns-2)

@@ -1,6 +1,6 @@
 use borrow.Author.Needs.{needs}
 use mathlib.Core.Path.{_≡_, ap, ap₂, _∙_}
-use Prim.Native.Nat.{ℕ, _≤_, _^_}
+use Prim.Native.Nat.{ℕ, _+_, _≤_, _^_}
 use native.Mathlib.Omega.{arith}
 use lib.IntN.{ℤ, pos, natAbs, _+ℤ_, _*ℤ_}
 use borrow.Author.Tests.{eq-eqb, ne-eqb}
@@ -15,9 +15,9 @@ use Rattle.price.specs.Price.{withInterval}
 use Rattle.price.proofs.Average.with_interval.Statement.{statement}
 use Rattle.price.proofs.Average.with_interval.Tie as tie
 
--- an average of two sums
-made : ℤ → ℕ → Average
-made value quantity = record { value = record { 0 = value }; quantity = record { 0 = quantity } }
+-- an average of its three numbers
+made : ℤ → ℕ → ℕ → Average
+made value quantity count = record { value = record { 0 = value }; quantity = record { 0 = quantity }; count = count }
 
 abbrev entry : tie.After-at-market-price → tie.Start
 entry c = c .before .before .before .before .before
@@ -29,7 +29,7 @@ small : (c : tie.After-at-market-price) → natAbs (c .at-market-price .result .
 small c =
     let s = entry c in
     let p = signed-within (s .args .price) (omega arith) in
-    rw (product c) (omega (arith, abs-mul≤ mostQuantity (2 ^ 31) (pos (s .args .quantity)) (signedOf (s .args .price)) (s .pre .1 .0) p))
+    rw (product c) (omega (arith, abs-mul≤ mostQuantity (2 ^ 31) (pos (s .args .quantity)) (signedOf (s .args .price)) (s .pre .0 .1) p))
 
 returns : tie.Need-returns
 unfolding withInterval
@@ -41,9 +41,14 @@ plus-requires c κs = let p = small c in within w64 _ (omega (arith, abs-add (en
 returns-2 : tie.Need-returns-2
 unfolding withInterval made
 returns-2 c =
-    let m = c .before .before in
+    let sums = c .before in
+    let m = sums .before .before in
+    let self = entry m .args .self in
     simp (ne-eqb _ _ (m .before .before .before .before .if1 .left))
-    (ap₂ made (c .before .plus .ensures ∙ ap (λ z. entry m .args .self .value .0 +ℤ z) (product m)) (c .plus2 .ensures))
+    (ap₂ (λ value quantity. made value quantity (self .count + 1))
+    (sums .before .plus .ensures ∙ ap (λ z. self .value .0 +ℤ z) (product m))
+    (sums .plus2 .ensures))
 
 pub with-interval-spec : {M : Type 1} → statement M
-with-interval-spec = tie.close (tie.spec returns (λ c κs. search needs) (λ c κs. search needs) plus-requires (λ c κs. search needs) returns-2)
+with-interval-spec =
+    tie.close (tie.spec returns (λ c κs. search needs) (λ c κs. search needs) plus-requires (λ c κs. search needs) (λ c. search needs) returns-2)

@@ -6,7 +6,7 @@ use lib.Dec.{eqb, leb}
 use lib.IntN.{ℤ, pos, _+ℤ_}
 use lib.ListN.{take, drop}
 use Rattle.words.specs.Word.{wordAt}
-use Rattle.limits.specs.Ranges.{dayHours}
+use Rattle.limits.specs.Ranges.{dayHours, leastPresent}
 use Rattle.verdict.specs.declared.Verdict.{Verdict}
 use Rattle.verdict.specs.declared.Verdict.the-variants.{Accepted, PriceWithoutQuantity, TooFewIntervals}
 use Rattle.verdict.specs.First.{rule_else_then_}
@@ -97,7 +97,7 @@ module _ (terms : Terms) (body : List ℕ) where
 -- quantity under it"; `place` is its place in the file
 abbrev pub usableRule : (place points : ℕ) → PriceAnswer → Verdict
 usableRule place points answer =
-    rule leb (9 * points) (answerCount answer) else TooFewIntervals place then
+    rule leb (leastPresent * points) (answerCount answer) else TooFewIntervals place then
     rule not (eqb (answerNumber answer) 11) else PriceWithoutQuantity place then
     Accepted
 

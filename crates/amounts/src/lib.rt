@@ -208,7 +208,7 @@ fn usable(place: usize, load: usize, answer: PriceAnswer) -> Verdict
     requires { ⌜ load ≤ plainPoints ⌝ }
     ensures { λ r. ⌜ r ≡ usableRule place load answer ⌝ }
 {
-    if (price::count_of(answer) as usize) < 9 * load {
+    if (price::count_of(answer) as usize) < limits::LEAST_PRESENT * load {
         return Verdict::TooFewIntervals { place };
     }
     if price::number(answer) == 11 {

@@ -21,6 +21,10 @@ mostMarketPrice = 20000000
 abbrev pub mostQuantity : ℕ
 mostQuantity = 10000000
 
+-- "fewer than 9L present of its 12L" are too few: so many are asked for each load point
+abbrev pub leastPresent : ℕ
+leastPresent = 9
+
 -- "metered demands (0 to 100,000,000, together at most 100,000,000)"
 abbrev pub mostDemand : ℕ
 mostDemand = 100000000

@@ -14,6 +14,8 @@ pub const MOST_REQUIREMENT: u32 = 50000000;
 pub const MOST_MARKET_PRICE: u32 = 20000000;
 // of an interval
 pub const MOST_QUANTITY: u32 = 10000000;
+// of the 12 interval prices for each load point, where the hour's price is needed
+pub const LEAST_PRESENT: usize = 9;
 // of a coordinator, and of all in an hour
 pub const MOST_DEMAND: u32 = 100000000;
 // by its magnitude

@@ -26,7 +26,7 @@ unfolding withInterval
 with-sized a n q p s k b = by (missing p) refl
   where
     by : (t : Bool) → missing p ≡ t → Sized (withInterval a q p) (suc n)
-    by true e = rw e (record { value = s .value; quantity = omega (arith, s .quantity); count = omega (arith, s .count) })
+    by true e = rw e (record { value = omega (arith, s .value); quantity = omega (arith, s .quantity); count = omega (arith, s .count) })
     by false e =
         let v = a .value .0 in
         let w = pos q *ℤ signedOf p in

@@ -8,7 +8,7 @@ use native.Mathlib.Decide.{ℕ-discrete, decLe}
 use native.Mathlib.Omega.{arith}
 use lib.Dec.{leb, eqb}
 use lib.ListN.{length}
-use Rattle.limits.specs.Ranges.{dayHours, mostCoordinators}
+use Rattle.limits.specs.Ranges.{dayHours, leastPresent, mostCoordinators}
 use Rattle.limits.proofs.Editions.{areas-most, bytes-most}
 use Rattle.verdict.specs.declared.Verdict.{Verdict}
 use Rattle.verdict.specs.declared.Verdict.the-variants.{Accepted, PriceWithoutQuantity, AmountWithoutDemand, RoomTooShort, TooFewIntervals}
@@ -91,7 +91,7 @@ module _ (file : List ℕ) (accepted : numberOf (checkOf file) ≡ 0) where
         let end = hour-end h p in
         or-holds Small _ _
         (if-small (priceNeeded terms body h) _
-        (rule-holds Small (leb (9 * pointsOf body) (answerCount (priceAnswerAt body h))) (TooFewIntervals (start + intervalsAt body h)) _ (λ e. omega arith)
+        (rule-holds Small (leb (leastPresent * pointsOf body) (answerCount (priceAnswerAt body h))) (TooFewIntervals (start + intervalsAt body h)) _ (λ e. omega arith)
         (λ e. rule-holds Small (not (eqb (answerNumber (priceAnswerAt body h)) 11)) (PriceWithoutQuantity (start + intervalsAt body h)) Accepted
         (λ e. omega arith) (λ e. accepted-small))))
         (λ z. rule-holds Small (chargeable terms body h) (AmountWithoutDemand (start + demandsAt body h)) _ (λ e. omega arith) (λ e. accepted-small))

@@ -3,7 +3,7 @@
 use Prim.Native.Nat.{ℕ, _*_, _≤_}
 use mathlib.Core.Bool.{Bool, true, false, not, cond, _||_, true≢false}
 use mathlib.Core.List.{List}
-use mathlib.Core.Logic.{⊎-elim, _↔_, inr}
+use mathlib.Core.Logic.{_⊎_, ⊎-elim, _↔_, inl, inr}
 use mathlib.Core.Path.{_≡_, refl, sym, ap, _∙_}
 use native.Mathlib.Omega.{arith}
 use lib.Dec.{eqb, leb, ltb}
@@ -11,6 +11,7 @@ use lib.IntN.{natAbs}
 use lib.ListN.{length}
 use borrow.Author.Tests.{eqb-true, eq-eqb, eqb-false, ne-eqb, leb-true, le-leb, leb-false, lt-leb, ltb-false, le-ltb}
 use Rattle.exact.specs.Total.{total}
+use Rattle.limits.specs.Ranges.{leastPresent}
 use Rattle.verdict.specs.declared.Verdict.{Verdict}
 use Rattle.verdict.specs.declared.Verdict.the-variants.{Accepted, PriceWithoutQuantity, AmountWithoutDemand, TooFewIntervals}
 use Rattle.verdict.specs.Verdict.{numberOf, placeOf}
@@ -24,9 +25,9 @@ use Rattle.surcharge.specs.declared.Terms.{Terms}
 use Rattle.amounts.specs.Amounts.{amountAt, priceFrom, priceAnswerAt, priceNeeded, priceRule}
 use Rattle.settlement.specs.Settlement.{chargeable, chargeRule, hourRefusal, termsBy, ownDays, settleBy}
 use Rattle.theorems.specs.Seen.{presentAt}
-use Rattle.theorems.specs.Refused.{quantityUnder, hourVerdict, TooFewSeen, PriceWithout, NobodyToCharge, AtFirstHour, firstInterval, firstDemand}
-use Rattle.theorems.specs.Refused.{HourRefuses}
-use Rattle.theorems.proofs.PricesSeen.{count-is}
+use Rattle.theorems.specs.Refused.{Refuses, quantityUnder, hourVerdict, HourRefuses, TooFewSeen, PriceWithout, NobodyToCharge, OnlyNobodyToCharge}
+use Rattle.theorems.specs.Refused.{AtFirstHour, firstInterval, firstDemand}
+use Rattle.theorems.proofs.PricesSeen.{seen-at}
 use Rattle.theorems.proofs.SettledOrUntouched.{refuses-exactly-by}
 
 -- ---- an hour by its four tests
@@ -37,49 +38,32 @@ module _ (at from : ℕ) where
       cond needed (rule enough else TooFewIntervals at then rule not without else PriceWithoutQuantity at then Accepted) Accepted
       orElse (rule charged else AmountWithoutDemand from then Accepted)
 
-  sixteen : (needed enough without charged : Bool) → numberOf (hour needed enough without charged) ≡ 16
-      → (needed ≡ true) × (enough ≡ false) × (placeOf (hour needed enough without charged) ≡ at)
+  few-says : (without charged : Bool) → hour true false without charged ≡ TooFewIntervals at
   unfolding _orElse_
-  sixteen true false without charged e = (refl, refl, refl)
-  sixteen true true true charged e = absurd (omega (arith, e))
-  sixteen true true false true e = absurd (omega (arith, e))
-  sixteen true true false false e = absurd (omega (arith, e))
-  sixteen false enough without true e = absurd (omega (arith, e))
-  sixteen false enough without false e = absurd (omega (arith, e))
+  few-says without charged = refl
 
-  sixteen-back : (without charged : Bool) → hour true false without charged ≡ TooFewIntervals at
+  without-says : (charged : Bool) → hour true true true charged ≡ PriceWithoutQuantity at
   unfolding _orElse_
-  sixteen-back without charged = refl
+  without-says charged = refl
 
-  eleven : (needed enough without charged : Bool) → numberOf (hour needed enough without charged) ≡ 11
-      → (needed ≡ true) × (enough ≡ true) × (without ≡ true) × (placeOf (hour needed enough without charged) ≡ at)
-  unfolding _orElse_
-  eleven true true true charged e = (refl, refl, refl, refl)
-  eleven true false without charged e = absurd (omega (arith, e))
-  eleven true true false true e = absurd (omega (arith, e))
-  eleven true true false false e = absurd (omega (arith, e))
-  eleven false enough without true e = absurd (omega (arith, e))
-  eleven false enough without false e = absurd (omega (arith, e))
-
-  eleven-back : (charged : Bool) → hour true true true charged ≡ PriceWithoutQuantity at
-  unfolding _orElse_
-  eleven-back charged = refl
-
-  twelve : (needed enough without charged : Bool) → numberOf (hour needed enough without charged) ≡ 12
-      → (needed ≡ true → (enough ≡ true) × (without ≡ false)) × (charged ≡ false) × (placeOf (hour needed enough without charged) ≡ from)
-  unfolding _orElse_
-  twelve true true false false e = ((λ n. (refl, refl)), refl, refl)
-  twelve false enough without false e = ((λ n. absurd (true≢false (sym n))), refl, refl)
-  twelve true false without charged e = absurd (omega (arith, e))
-  twelve true true true charged e = absurd (omega (arith, e))
-  twelve true true false true e = absurd (omega (arith, e))
-  twelve false enough without true e = absurd (omega (arith, e))
-
-  twelve-back : (needed enough without : Bool) → (needed ≡ true → (enough ≡ true) × (without ≡ false))
+  uncharged-says : (needed enough without : Bool) → (needed ≡ true → (enough ≡ true) × (without ≡ false))
       → hour needed enough without false ≡ AmountWithoutDemand from
   unfolding _orElse_
-  twelve-back true enough without is = rw (is refl .0, is refl .1)
-  twelve-back false enough without is = refl
+  uncharged-says true enough without is = rw (is refl .0, is refl .1)
+  uncharged-says false enough without is = refl
+
+  -- and there is no other way to refuse
+  tests-why : (needed enough without charged : Bool) → Refuses (hour needed enough without charged)
+      → ((needed ≡ true) × (enough ≡ false))
+      ⊎ (((needed ≡ true) × (enough ≡ true) × (without ≡ true))
+      ⊎ ((needed ≡ true → (enough ≡ true) × (without ≡ false)) × (charged ≡ false)))
+  unfolding _orElse_
+  tests-why true false without charged r = inl (refl, refl)
+  tests-why true true true charged r = inr (inl (refl, refl, refl))
+  tests-why true true false false r = inr (inr ((λ n. (refl, refl)), refl))
+  tests-why true true false true r = absurd (r refl)
+  tests-why false enough without false r = inr (inr ((λ n. absurd (true≢false (sym n))), refl))
+  tests-why false enough without true r = absurd (r refl)
 
 -- ---- its tests
 
@@ -100,7 +84,7 @@ module _ (d : ℕ → List ℕ → ℕ) (file : List ℕ) (k h : ℕ) where
   needed = priceNeeded terms body h
 
   abbrev enough : Bool
-  enough = leb (9 * pointsOf body) (length (presentAt body h))
+  enough = leb (leastPresent * pointsOf body) (length (presentAt body h))
 
   abbrev without : Bool
   without = eqb (quantityUnder body h) 0
@@ -111,7 +95,7 @@ module _ (d : ℕ → List ℕ → ℕ) (file : List ℕ) (k h : ℕ) where
 
   hour-is : hourVerdict d file k h ≡ hour (firstInterval d file k h) (firstDemand d file k h) needed enough without (chargeable terms body h)
   unfolding hourRefusal priceRule chargeRule
-  hour-is = rw (count-is body h, without-is)
+  hour-is = rw (seen-at body h, without-is)
 
   nobody : chargeable terms body h ≡ false → NobodyToCharge d file k h
   unfolding chargeable
@@ -129,54 +113,61 @@ module _ (d : ℕ → List ℕ → ℕ) (file : List ℕ) (k h : ℕ) where
   not-chargeable n =
       rw (eq-eqb (kindOf body) 1 (n .0), ne-eqb (natAbs (amountAt terms body h)) 0 (n .1), le-ltb 0 (total (demandsOf body h)) (omega (arith, n .2)))
 
-  -- ---- the number and the place of an hour that refuses, by why it does
-
-  hour-sixteen : numberOf (hourVerdict d file k h) ≡ 16 → TooFewSeen d file k h × (placeOf (hourVerdict d file k h) ≡ firstInterval d file k h)
-  hour-sixteen n =
-      let e = sixteen (firstInterval d file k h) (firstDemand d file k h) needed enough without (chargeable terms body h) (ap numberOf (sym hour-is) ∙ n) in
-      ((e .0, leb-false _ _ (e .1)), ap placeOf hour-is ∙ e .2)
+  -- ---- what an hour answers, by why it refuses
 
   sixteen-hour : TooFewSeen d file k h → hourVerdict d file k h ≡ TooFewIntervals (firstInterval d file k h)
   sixteen-hour few =
-      rw (hour-is, few .0, lt-leb (9 * pointsOf body) (length (presentAt body h)) (few .1))
-      (sixteen-back (firstInterval d file k h) (firstDemand d file k h) without (chargeable terms body h))
-
-  hour-eleven : numberOf (hourVerdict d file k h) ≡ 11 → PriceWithout d file k h × (placeOf (hourVerdict d file k h) ≡ firstInterval d file k h)
-  hour-eleven n =
-      let e = eleven (firstInterval d file k h) (firstDemand d file k h) needed enough without (chargeable terms body h) (ap numberOf (sym hour-is) ∙ n) in
-      ((e .0, leb-true _ _ (e .1), eqb-true _ _ (e .2)), ap placeOf hour-is ∙ e .3)
+      rw (hour-is, few .0, lt-leb (leastPresent * pointsOf body) (length (presentAt body h)) (few .1))
+      (few-says (firstInterval d file k h) (firstDemand d file k h) without (chargeable terms body h))
 
   eleven-hour : PriceWithout d file k h → hourVerdict d file k h ≡ PriceWithoutQuantity (firstInterval d file k h)
   eleven-hour w =
-      rw (hour-is, w .0, le-leb (9 * pointsOf body) (length (presentAt body h)) (w .1), eq-eqb (quantityUnder body h) 0 (w .2))
-      (eleven-back (firstInterval d file k h) (firstDemand d file k h) (chargeable terms body h))
-
-  -- neither 16 nor 11, and nobody to charge
-  abbrev Twelve : Type 0
-  Twelve = (TooFewSeen d file k h → ⊥) × (PriceWithout d file k h → ⊥) × NobodyToCharge d file k h
-
-  hour-twelve : numberOf (hourVerdict d file k h) ≡ 12 → Twelve × (placeOf (hourVerdict d file k h) ≡ firstDemand d file k h)
-  hour-twelve n =
-      let e = twelve (firstInterval d file k h) (firstDemand d file k h) needed enough without (chargeable terms body h) (ap numberOf (sym hour-is) ∙ n) in (
-        (
-          (λ few. omega (arith, few .1, leb-true (9 * pointsOf body) (length (presentAt body h)) (e .0 (few .0) .0))),
-          (λ w. eqb-false _ _ (e .0 (w .0) .1) (w .2)),
-          nobody (e .1),
-        ),
-        ap placeOf hour-is ∙ e .2,
-      )
+      rw (hour-is, w .0, le-leb (leastPresent * pointsOf body) (length (presentAt body h)) (w .1), eq-eqb (quantityUnder body h) 0 (w .2))
+      (without-says (firstInterval d file k h) (firstDemand d file k h) (chargeable terms body h))
 
   -- a price that is needed is one that can be used
-  usable : Twelve → needed ≡ true → (enough ≡ true) × (without ≡ false)
+  usable : OnlyNobodyToCharge d file k h → needed ≡ true → (enough ≡ true) × (without ≡ false)
   usable t n = by enough refl
     where
       by : (some : Bool) → enough ≡ some → (enough ≡ true) × (without ≡ false)
       by true e = (e, ne-eqb _ _ (λ none. t .1 (n, leb-true _ _ e, none)))
       by false e = absurd (t .0 (n, leb-false _ _ e))
 
-  twelve-hour : Twelve → hourVerdict d file k h ≡ AmountWithoutDemand (firstDemand d file k h)
+  twelve-hour : OnlyNobodyToCharge d file k h → hourVerdict d file k h ≡ AmountWithoutDemand (firstDemand d file k h)
   twelve-hour t =
-      rw (hour-is, not-chargeable (t .2)) (twelve-back (firstInterval d file k h) (firstDemand d file k h) needed enough without (usable t))
+      rw (hour-is, not-chargeable (t .2)) (uncharged-says (firstInterval d file k h) (firstDemand d file k h) needed enough without (usable t))
+
+  -- and it refuses for one of the three
+  hour-why : Refuses (hourVerdict d file k h) → TooFewSeen d file k h ⊎ (PriceWithout d file k h ⊎ OnlyNobodyToCharge d file k h)
+  hour-why r =
+      ⊎-elim (λ e. inl (e .0, leb-false _ _ (e .1)))
+      (⊎-elim (λ e. inr (inl (e .0, leb-true _ _ (e .1), eqb-true _ _ (e .2))))
+      (λ e. inr (inr (
+        (λ few. omega (arith, few .1, leb-true (leastPresent * pointsOf body) (length (presentAt body h)) (e .0 (few .0) .0))),
+        (λ w. eqb-false _ _ (e .0 (w .0) .1) (w .2)),
+        nobody (e .1),
+      ))))
+      (tests-why (firstInterval d file k h) (firstDemand d file k h) needed enough without (chargeable terms body h)
+      (λ q. r (ap numberOf hour-is ∙ q)))
+
+  -- so a number tells why
+  hour-sixteen : numberOf (hourVerdict d file k h) ≡ 16 → TooFewSeen d file k h
+  hour-sixteen n =
+      ⊎-elim (λ few. few)
+      (⊎-elim (λ w. absurd (omega (arith, n, ap numberOf (eleven-hour w)))) (λ t. absurd (omega (arith, n, ap numberOf (twelve-hour t)))))
+      (hour-why (λ q. omega (arith, n, q)))
+
+  hour-eleven : numberOf (hourVerdict d file k h) ≡ 11 → PriceWithout d file k h
+  hour-eleven n =
+      ⊎-elim (λ few. absurd (omega (arith, n, ap numberOf (sixteen-hour few))))
+      (⊎-elim (λ w. w) (λ t. absurd (omega (arith, n, ap numberOf (twelve-hour t)))))
+      (hour-why (λ q. omega (arith, n, q)))
+
+  hour-twelve : numberOf (hourVerdict d file k h) ≡ 12 → OnlyNobodyToCharge d file k h
+  hour-twelve n =
+      ⊎-elim (λ few. absurd (omega (arith, n, ap numberOf (sixteen-hour few))))
+      (⊎-elim (λ w. absurd (omega (arith, n, ap numberOf (eleven-hour w)))) (λ t. t))
+      (hour-why (λ q. omega (arith, n, q)))
 
 -- ---- settlement
 
@@ -188,10 +179,11 @@ module _ (d : ℕ → List ℕ → ℕ) (file : List ℕ) (room : ℕ) where
       (⊎-elim (λ c. absurd (other (ap numberOf (c .answered)))) (λ c. c))
       (refuses-exactly-by d file room (settleBy d file room) .0 ((λ q. omega (arith, low)), refl))
 
-  -- an answer of an hour is given exactly where the first hour with a refusal has it
-  module _ (n p : ℕ) (low : 11 ≤ n) (other : n ≡ 13 → ⊥) (Because : ℕ → ℕ → Type 0) (placeIn : ℕ → ℕ → ℕ)
-      (says : (k h : ℕ) → numberOf (hourVerdict d file k h) ≡ n → Because k h × (placeOf (hourVerdict d file k h) ≡ placeIn k h))
-      (answers : (k h : ℕ) → Because k h → (numberOf (hourVerdict d file k h) ≡ n) × (placeOf (hourVerdict d file k h) ≡ placeIn k h)) where
+  -- a case of the verdict is the answer, with its place, exactly where the first hour with a refusal is so
+  module _ (n p : ℕ) (low : 11 ≤ n) (other : n ≡ 13 → ⊥) (Because : ℕ → ℕ → Type 0) (placeIn : ℕ → ℕ → ℕ) (case : ℕ → Verdict)
+      (number-is : (place : ℕ) → numberOf (case place) ≡ n) (place-is : (place : ℕ) → placeOf (case place) ≡ place)
+      (says : (k h : ℕ) → numberOf (hourVerdict d file k h) ≡ n → Because k h)
+      (answers : (k h : ℕ) → Because k h → hourVerdict d file k h ≡ case (placeIn k h)) where
     there : (numberOf (settleBy d file room) ≡ n) × (placeOf (settleBy d file room) ≡ p) → AtFirstHour d file room Because placeIn p
     there a =
         let c = at-hour (omega (arith, a .0)) (λ q. other (sym (a .0) ∙ q)) in
@@ -202,16 +194,16 @@ module _ (d : ℕ → List ℕ → ℕ) (file : List ℕ) (room : ℕ) where
           k = c .k;
           h = c .h;
           first = c .first;
-          because = why .0;
-          here = sym (a .1) ∙ ap placeOf (c .answered) ∙ why .1;
+          because = why;
+          here = sym (a .1) ∙ ap placeOf (c .answered ∙ answers (c .k) (c .h) why) ∙ place-is _;
         }
 
     back : AtFirstHour d file room Because placeIn p → (numberOf (settleBy d file room) ≡ n) × (placeOf (settleBy d file room) ≡ p)
     back b =
         let settles = refuses-exactly-by d file room (hourVerdict d file (b .k) (b .h)) .1
         (inr (inr (record { checked = b .checked; roomy = b .enough; k = b .k; h = b .h; first = b .first; answered = refl }))) .1 in
-        let hour = answers (b .k) (b .h) (b .because) in
-        (ap numberOf settles ∙ hour .0, ap placeOf settles ∙ hour .1 ∙ sym (b .here))
+        let answer = settles ∙ answers (b .k) (b .h) (b .because) in
+        (ap numberOf answer ∙ number-is _, ap placeOf answer ∙ place-is _ ∙ sym (b .here))
 
     exactly : ((numberOf (settleBy d file room) ≡ n) × (placeOf (settleBy d file room) ≡ p)) ↔ AtFirstHour d file room Because placeIn p
     exactly = (there, back)
@@ -229,23 +221,34 @@ abbrev pub ElevenExactly : (ℕ → List ℕ → ℕ) → Type 0
 ElevenExactly d = AnswersExactly d 11 (PriceWithout d) (firstInterval d)
 
 abbrev pub TwelveExactly : (ℕ → List ℕ → ℕ) → Type 0
-TwelveExactly d =
-    AnswersExactly d 12 (λ file k h. (TooFewSeen d file k h → ⊥) × (PriceWithout d file k h → ⊥) × NobodyToCharge d file k h) (firstDemand d)
+TwelveExactly d = AnswersExactly d 12 (OnlyNobodyToCharge d) (firstDemand d)
+
+-- the number of an hour that refuses is 16, 11 or 12
+abbrev pub SixteenElevenOrTwelve : (ℕ → List ℕ → ℕ) → Type 0
+SixteenElevenOrTwelve d =
+    (file : List ℕ) (k h : ℕ) → let hour = hourVerdict d file k h in
+    Refuses hour → (numberOf hour ≡ 16) ⊎ ((numberOf hour ≡ 11) ⊎ (numberOf hour ≡ 12))
 
 pub sixteen-exactly-by : (d : ℕ → List ℕ → ℕ) → SixteenExactly d
 sixteen-exactly-by d file room p =
-    exactly d file room 16 p (omega arith) (λ q. omega arith) (TooFewSeen d file) (firstInterval d file) (hour-sixteen d file)
-    (λ k h w. let e = sixteen-hour d file k h w in (ap numberOf e, ap placeOf e))
+    exactly d file room 16 p (omega arith) (λ q. omega arith) (TooFewSeen d file) (firstInterval d file) TooFewIntervals (λ _. refl) (λ _. refl)
+    (hour-sixteen d file) (sixteen-hour d file)
 
 pub eleven-exactly-by : (d : ℕ → List ℕ → ℕ) → ElevenExactly d
 eleven-exactly-by d file room p =
-    exactly d file room 11 p (omega arith) (λ q. omega arith) (PriceWithout d file) (firstInterval d file) (hour-eleven d file)
-    (λ k h w. let e = eleven-hour d file k h w in (ap numberOf e, ap placeOf e))
+    exactly d file room 11 p (omega arith) (λ q. omega arith) (PriceWithout d file) (firstInterval d file) PriceWithoutQuantity (λ _. refl) (λ _. refl)
+    (hour-eleven d file) (eleven-hour d file)
 
 pub twelve-exactly-by : (d : ℕ → List ℕ → ℕ) → TwelveExactly d
 twelve-exactly-by d file room p =
-    exactly d file room 12 p (omega arith) (λ q. omega arith) (Twelve d file) (firstDemand d file) (hour-twelve d file)
-    (λ k h t. let e = twelve-hour d file k h t in (ap numberOf e, ap placeOf e))
+    exactly d file room 12 p (omega arith) (λ q. omega arith) (OnlyNobodyToCharge d file) (firstDemand d file) AmountWithoutDemand (λ _. refl) (λ _. refl)
+    (hour-twelve d file) (twelve-hour d file)
+
+pub sixteen-eleven-or-twelve-by : (d : ℕ → List ℕ → ℕ) → SixteenElevenOrTwelve d
+sixteen-eleven-or-twelve-by d file k h r =
+    ⊎-elim (λ few. inl (ap numberOf (sixteen-hour d file k h few)))
+    (⊎-elim (λ w. inr (inl (ap numberOf (eleven-hour d file k h w)))) (λ t. inr (inr (ap numberOf (twelve-hour d file k h t)))))
+    (hour-why d file k h r)
 
 -- ---- of `settle`
 
@@ -257,3 +260,6 @@ eleven-exactly = eleven-exactly-by ownDays
 
 pub twelve-exactly : TwelveExactly ownDays
 twelve-exactly = twelve-exactly-by ownDays
+
+pub sixteen-eleven-or-twelve : SixteenElevenOrTwelve ownDays
+sixteen-eleven-or-twelve = sixteen-eleven-or-twelve-by ownDays

@@ -8,7 +8,7 @@ use lib.Dec.{eqb, leb}
 use lib.IntN.{ℤ}
 use lib.ListN.{length}
 use borrow.Author.Tests.{leb-true}
-use Rattle.limits.specs.Ranges.{dayHours}
+use Rattle.limits.specs.Ranges.{dayHours, leastPresent}
 use Rattle.verdict.specs.declared.Verdict.the-variants.{Accepted, TooFewIntervals}
 use Rattle.verdict.specs.Verdict.{numberOf}
 use Rattle.verdict.proofs.First.{kept}
@@ -26,18 +26,18 @@ use Rattle.theorems.specs.Seen.{presentAt, PriceSeen}
 use Rattle.theorems.proofs.SettledExactly.{settled-says}
 
 -- the count of an hour's price is the length of the list of its present intervals
-pub count-is : (body : List ℕ) (h : ℕ) → answerCount (priceAnswerAt body h) ≡ length (presentAt body h)
+pub seen-at : (body : List ℕ) (h : ℕ) → answerCount (priceAnswerAt body h) ≡ length (presentAt body h)
 unfolding priceFrom
-count-is body h = seen _ (12 * pointsOf body)
+seen-at body h = seen _ (12 * pointsOf body)
 
 module _ (terms : Terms) (body : List ℕ) (h : ℕ) where
   enough : (start : ℕ) → numberOf (priceRule terms start body h) ≡ 0 → priceNeeded terms body h ≡ true
-      → 9 * pointsOf body ≤ length (presentAt body h)
+      → leastPresent * pointsOf body ≤ length (presentAt body h)
   unfolding priceRule
   enough start z needed =
       let place = start + intervalsAt body h in
       let usable = ap (λ t. numberOf (cond t (usableRule place (pointsOf body) (priceAnswerAt body h)) Accepted)) (sym needed) ∙ z in
-      leb-true _ _ (rw (← count-is body h) (kept (leb (9 * pointsOf body) (answerCount (priceAnswerAt body h))) (TooFewIntervals place) _ (λ q. omega arith) usable .0))
+      leb-true _ _ (rw (← seen-at body h) (kept (leb (leastPresent * pointsOf body) (answerCount (priceAnswerAt body h))) (TooFewIntervals place) _ (λ q. omega arith) usable .0))
 
   else-none : priceNeeded terms body h ≡ false → (price : ℤ)
       → (onPeakAtPrice terms body h price ≡ onPeakAmount terms body h) × (offPeakAtPrice terms body h price ≡ offPeakAmount terms body h)

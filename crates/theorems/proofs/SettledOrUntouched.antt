@@ -1,30 +1,25 @@
 -- Settled or untouched: after 0 the statement is the blocks and then what stood behind them ("Numbers past the needed ones stay"), after any other number it is
 -- as it was ("A refusal writes nothing in any lent buffer"). And a settlement refuses exactly where the check refuses, or the room is short, or an hour of an
 -- area has a refusal; it answers what the check, the numbers needed or the first such hour says.
-use Prim.Native.Nat.{ℕ, _*_, _≤_, _<_}
-use mathlib.Core.Bool.{Bool, true, false, not, cond}
+use Prim.Native.Nat.{ℕ, _≤_, _<_}
 use mathlib.Core.List.{List, _++_}
 use mathlib.Core.Logic.{_⊎_, inl, inr, ⊎-elim, dite, _↔_}
 use mathlib.Core.Path.{_≡_, refl, sym, ap, subst, _∙_}
 use native.Mathlib.Decide.{ℕ-discrete, decLt}
 use native.Mathlib.Omega.{arith}
-use lib.Dec.{eqb, leb}
 use lib.IntN.{ℤ}
 use lib.ListN.{length, drop}
 use borrow.Author.Tests.{le-leb, lt-leb}
 use Rattle.limits.specs.Ranges.{dayHours}
 use Rattle.verdict.specs.declared.Verdict.{Verdict}
-use Rattle.verdict.specs.declared.Verdict.the-variants.{Accepted, PriceWithoutQuantity, AmountWithoutDemand, RoomTooShort, TooFewIntervals}
+use Rattle.verdict.specs.declared.Verdict.the-variants.{RoomTooShort}
 use Rattle.verdict.specs.Verdict.{numberOf}
-use Rattle.verdict.specs.First.{rule_else_then_, _orElse_, scan}
+use Rattle.verdict.specs.First.{scan}
 use Rattle.verdict.proofs.First.{scan-each, all-accept}
-use Rattle.body.specs.Layout.{pointsOf}
-use Rattle.contents.specs.File.{areasOf, bodyAt}
+use Rattle.contents.specs.File.{areasOf}
 use Rattle.dayfile.specs.Check.{checkOf}
-use Rattle.price.specs.Price.{answerNumber, answerCount}
-use Rattle.amounts.specs.Amounts.{priceAnswerAt, priceNeeded, priceRule}
-use Rattle.settlement.specs.Settlement.{chargeable, chargeRule, hourRefusal, numbersNeeded, statementTo, hoursRefusal, areaRefusal, areasRefusal}
-use Rattle.settlement.specs.Settlement.{acceptedRule, settleWith, daysBy, termsBy, ownDays, settleBy}
+use Rattle.settlement.specs.Settlement.{numbersNeeded, statementTo, hoursRefusal, areaRefusal, areasRefusal, acceptedRule, settleWith, daysBy, ownDays}
+use Rattle.settlement.specs.Settlement.{settleBy}
 use Rattle.settlement.specs.Shown.{statementLeftBy}
 use Rattle.settlement.proofs.Accepted.{settled, refused}
 use Rattle.theorems.specs.Refused.{Refuses, hourVerdict, FirstHour, CheckRefuses, RoomShort, HourRefuses, RefusedWith}
@@ -148,32 +143,6 @@ RefusesExactly d =
 pub refuses-exactly-by : (d : ℕ → List ℕ → ℕ) → RefusesExactly d
 refuses-exactly-by d file room answer = refuses-answer d file room answer
 
--- the number of an hour that refuses is 16, 11 or 12
-by-tests : (needed enough priced charged : Bool) (at from : ℕ)
-    → let hour = cond needed (rule enough else TooFewIntervals at then rule priced else PriceWithoutQuantity at then Accepted) Accepted
-    orElse (rule charged else AmountWithoutDemand from then Accepted) in
-    Refuses hour → (numberOf hour ≡ 16) ⊎ ((numberOf hour ≡ 11) ⊎ (numberOf hour ≡ 12))
-unfolding _orElse_
-by-tests true true true true at from r = absurd (r refl)
-by-tests true true true false at from r = inr (inr refl)
-by-tests true true false charged at from r = inr (inl refl)
-by-tests true false priced charged at from r = inl refl
-by-tests false enough priced true at from r = absurd (r refl)
-by-tests false enough priced false at from r = inr (inr refl)
-
-abbrev pub SixteenElevenOrTwelve : (ℕ → List ℕ → ℕ) → Type 0
-SixteenElevenOrTwelve d =
-    (file : List ℕ) (k h : ℕ) → let hour = hourVerdict d file k h in
-    Refuses hour → (numberOf hour ≡ 16) ⊎ ((numberOf hour ≡ 11) ⊎ (numberOf hour ≡ 12))
-
-pub sixteen-eleven-or-twelve-by : (d : ℕ → List ℕ → ℕ) → SixteenElevenOrTwelve d
-unfolding hourRefusal priceRule chargeRule
-sixteen-eleven-or-twelve-by d file k h r =
-    let terms = termsBy d file k in
-    let body = bodyAt file k in
-    let answer = priceAnswerAt body h in
-    by-tests (priceNeeded terms body h) (leb (9 * pointsOf body) (answerCount answer)) (not (eqb (answerNumber answer) 11)) (chargeable terms body h) _ _ r
-
 -- ---- of `settle`
 
 pub settled-or-untouched : SettledOrUntouched ownDays
@@ -181,6 +150,3 @@ settled-or-untouched = settled-or-untouched-by ownDays
 
 pub refuses-exactly : RefusesExactly ownDays
 refuses-exactly = refuses-exactly-by ownDays
-
-pub sixteen-eleven-or-twelve : SixteenElevenOrTwelve ownDays
-sixteen-eleven-or-twelve = sixteen-eleven-or-twelve-by ownDays

@@ -7,7 +7,7 @@ use mathlib.Core.Path.{_≡_}
 use lib.IntN.{natAbs}
 use lib.ListN.{length}
 use Rattle.exact.specs.Total.{total}
-use Rattle.limits.specs.Ranges.{dayHours}
+use Rattle.limits.specs.Ranges.{dayHours, leastPresent}
 use Rattle.verdict.specs.declared.Verdict.{Verdict}
 use Rattle.verdict.specs.declared.Verdict.the-variants.{RoomTooShort}
 use Rattle.verdict.specs.Verdict.{numberOf}
@@ -68,19 +68,23 @@ module _ (d : ℕ → List ℕ → ℕ) (file : List ℕ) where
   abbrev pub TooFewSeen : ℕ → ℕ → Type 0
   TooFewSeen k h =
       let body = bodyAt file k in
-      (priceNeeded (termsBy d file k) body h ≡ true) × (length (presentAt body h) < 9 * pointsOf body)
+      (priceNeeded (termsBy d file k) body h ≡ true) × (length (presentAt body h) < leastPresent * pointsOf body)
 
   -- "enough prices with no quantity"
   abbrev pub PriceWithout : ℕ → ℕ → Type 0
   PriceWithout k h =
       let body = bodyAt file k in
-      (priceNeeded (termsBy d file k) body h ≡ true) × (9 * pointsOf body ≤ length (presentAt body h)) × (quantityUnder body h ≡ 0)
+      (priceNeeded (termsBy d file k) body h ≡ true) × (leastPresent * pointsOf body ≤ length (presentAt body h)) × (quantityUnder body h ≡ 0)
 
   -- "kind 1, A not 0, T = 0"
   abbrev pub NobodyToCharge : ℕ → ℕ → Type 0
   NobodyToCharge k h =
       let body = bodyAt file k in
       (kindOf body ≡ 1) × (natAbs (amountAt (termsBy d file k) body h) ≡ 0 → ⊥) × (total (demandsOf body h) ≡ 0)
+
+  -- and nothing that is judged before it in the hour
+  abbrev pub OnlyNobodyToCharge : ℕ → ℕ → Type 0
+  OnlyNobodyToCharge k h = (TooFewSeen k h → ⊥) × (PriceWithout k h → ⊥) × NobodyToCharge k h
 
   -- Refused for what is said of the first hour that has a refusal, at that hour's place.
   pub record AtFirstHour (room : ℕ) (Because : ℕ → ℕ → Type 0) (placeIn : ℕ → ℕ → ℕ) (p : ℕ) : Type 0 where

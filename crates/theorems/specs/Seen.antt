@@ -5,6 +5,7 @@ use mathlib.Core.List.{List}
 use mathlib.Core.Path.{_≡_}
 use lib.IntN.{ℤ}
 use lib.ListN.{length}
+use Rattle.limits.specs.Ranges.{leastPresent}
 use Rattle.body.specs.Layout.{pointsOf, intervalsAt}
 use Rattle.price.specs.Intervals.{present, firstIntervals}
 use Rattle.surcharge.specs.declared.Terms.{Terms}
@@ -16,7 +17,7 @@ presentAt body h = present (firstIntervals (pairsFrom body (intervalsAt body h))
 
 pub record PriceSeen (terms : Terms) (body : List ℕ) (h : ℕ) : Type 0 where
   -- a needed price rests on at least 9L of its 12L
-  pub enough : priceNeeded terms body h ≡ true → 9 * pointsOf body ≤ length (presentAt body h)
+  pub enough : priceNeeded terms body h ≡ true → leastPresent * pointsOf body ≤ length (presentAt body h)
   -- and where none is needed the amounts rest on none: they are the same at every price
   pub else-none : priceNeeded terms body h ≡ false → (price : ℤ)
       → (onPeakAtPrice terms body h price ≡ onPeakAmount terms body h) × (offPeakAtPrice terms body h price ≡ offPeakAmount terms body h)

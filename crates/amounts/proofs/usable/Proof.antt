@@ -3,17 +3,18 @@ use Prim.Native.Nat.{_*_, _≤_, _<_}
 use mathlib.Core.Path.{sym, _∙_}
 use native.Mathlib.Omega.{arith}
 use borrow.Author.Tests.{le-leb, lt-leb, eq-eqb, ne-eqb}
+use Rattle.limits.specs.Ranges.{leastPresent}
 use Rattle.price.specs.Price.{answerCount}
 use Rattle.amounts.proofs.usable.Statement.{statement}
 use Rattle.amounts.proofs.usable.Tie as tie
 
-enough : (c : tie.Else1) → let s = c .before .before .args in 9 * s .load ≤ answerCount (s .answer)
+enough : (c : tie.Else1) → let s = c .before .before .args in leastPresent * s .load ≤ answerCount (s .answer)
 enough c = omega (arith, c .before .count-of .ensures, c .if1 .left)
 
 returns : tie.Need-returns
 returns c =
     let s = c .before .before .args in
-    let few : answerCount (s .answer) < 9 * s .load = omega (arith, c .before .count-of .ensures, c .if1 .taken) in
+    let few : answerCount (s .answer) < leastPresent * s .load = omega (arith, c .before .count-of .ensures, c .if1 .taken) in
     simp (lt-leb _ _ few)
 
 returns-2 : tie.Need-returns-2

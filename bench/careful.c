@@ -267,6 +267,12 @@ static inline int price_needed(const area_t *a, int peak, uint32_t tier)
     return a->flag == 1 && (peak ? a->tier >= 2 && tier == 0 : tier >= 2);
 }
 
+/* m × (1 + d/100) of a tier of the area's day, in four-hundredths. */
+static inline int64_t scaled_multiplier(const area_t *a, uint32_t tier)
+{
+    return (tier == 2 ? 5 : 8) * (100 + (int64_t)a->days);
+}
+
 /* The three amounts of an hour; false where a needed price is refused. */
 static int amounts_of(const area_t *a, uint32_t peak_word, const uint8_t *hour, size_t h, amounts_t *amounts)
 {
@@ -281,14 +287,14 @@ static int amounts_of(const area_t *a, uint32_t peak_word, const uint8_t *hour, 
         return 0;
     }
     if (peak && a->tier >= 2) {
-        int64_t surcharge = (int64_t)a->upward * a->hub * (a->tier == 2 ? 5 : 8) * (100 + (int64_t)a->days);
+        int64_t surcharge = (int64_t)a->upward * a->hub * scaled_multiplier(a, a->tier);
         int64_t credit = tier == 0 ? (int64_t)a->upward * price * 4 : 0;
         int64_t due = (surcharge < 0 ? 0 : surcharge) - credit;
         amounts->on = due <= 0 ? 0 : rounded(due, 400000);
     }
     if (!peak && tier >= 2) {
-        int64_t due = (int64_t)upward * price * (tier == 2 ? 5 : 8);
-        amounts->off = due <= 0 ? 0 : rounded(due, 400000);
+        int64_t due = (int64_t)upward * price * scaled_multiplier(a, tier);
+        amounts->off = due <= 0 ? 0 : rounded(due, 40000000);
     }
     downward = word(hour, 4) + word(hour, 5);
     if (downward > 10000) {

@@ -1,5 +1,5 @@
 #!/usr/bin/env python3
-"""The rules of document 01, and of document 02 as far as its requests are taken up (§1), as plain
+"""The rules of document 01, and of document 02 as far as its requests are taken up (§1, §2), as plain
 functions: the check, the settlement, the price of an hour, the sharing of an amount, the lookup,
 the C call and the program.
 
@@ -357,13 +357,14 @@ def on_peak(area, hour, price):
     return cents(max(Fraction(0), S - credit))
 
 
-def off_peak(hour, price):
-    """Other hours: tier 0 and 1 give 0; otherwise R(max(0, U × load-weighted price × m)) with the
-    hour's own tier. No day scaling."""
+def off_peak(area, hour, price):
+    """Other hours: tier 0 and 1 give 0; otherwise R(max(0, U × price × m × (1 + d/100))), rounded
+    once (document 02, §2), with the load-weighted price and the hour's own tier."""
     if hour.peak or hour_tier(hour) <= 1:
         return 0
     U = upward_deficiency(hour)
-    return cents(max(Fraction(0), U * market_dollars(price) * multiplier(hour_tier(hour))))
+    m = multiplier(hour_tier(hour))
+    return cents(max(Fraction(0), U * market_dollars(price) * m * (1 + Fraction(area.days, 100))))
 
 
 def downward(W, mec):
@@ -389,7 +390,7 @@ def amounts(area, hour):
             raise Refused(11, hour.first_interval)
     return (
         on_peak(area, hour, price),
-        off_peak(hour, price),
+        off_peak(area, hour, price),
         downward(downward_deficiency(hour), market_dollars(hour.mec)),
     )
 

@@ -799,6 +799,25 @@ def settle_on_peak_figures(rng):
     yield Case(SETTLE, 96, day.to_bytes())
 
 
+def off_peak_day(persistent_days, figures):
+    """The hours outside the peak hours have these U, Q and prices, in order; no hour is a peak hour."""
+    day = days.quiet_day([SMALL], peak=0, pair=(1000, 0))
+    area = day.areas[0]
+    area.persistent_days = persistent_days
+    outside_peak = area.hours[:6] + area.hours[22:]
+    for hour, (upward, requirement, price) in zip(outside_peak, figures):
+        hour.energy_up, hour.requirement, hour.pairs = upward, requirement, [(1000, price)] * 12
+    return day
+
+
+def settle_off_peak_figures(rng):
+    """40 MW of 60 at 25 and d 5: $2,100.00. The same in tier 2, 1 and 0, and with other d."""
+    figures = [(40000, 60000, 250000), (40000, 80000, 250000), (10000, 60000, 250000)]
+    figures += [(0, 60000, 250000), (40000, 60000, -250000), (40000, 60000, 0)]
+    for persistent_days in (5, 0, 1, 30):
+        yield Case(SETTLE, 96, off_peak_day(persistent_days, figures).to_bytes())
+
+
 def settle_downward_figures(rng):
     """T8 and T9, in peak and other hours, with the deficiency in either number."""
     figures = (
@@ -848,10 +867,11 @@ def settle_halves(rng):
             hour.set_downward((12500, 0))
             hour.mec = -100 * (2 * between(rng, 0, 999) + 1)
             if not 6 <= number < 22:
-                # Off-peak in cents is U × price / 80,000 in tier 2, U × price / 50,000 in tier 3.
+                # Off-peak in cents is U × price × (100 + d) / 8,000,000 in tier 2 and / 5,000,000 in
+                # tier 3: a half for U × price an odd number of times half of that.
                 hour.requirement = 100000
-                hour.energy_up = rng.choice((14000, 22000, 30000, 51250, 53750))
-                hour.pairs = [(1000, 20 * (2 * between(rng, 0, 9999) + 1))] * 12
+                hour.energy_up, step = rng.choice(((20000, 200), (12500, 320), (32000, 125), (62500, 40)))
+                hour.pairs = [(1000, step * (2 * between(rng, 0, 9999) + 1))] * 12
         area.hours[between(rng, 6, 21)].spin = M
         yield Case(SETTLE, 24 * 5, day.to_bytes())
 
@@ -1438,6 +1458,37 @@ def c_call_order_of_hours(rng):
         yield c_call_of(day)
 
 
+def c_call_off_peak_scaling(rng):
+    """Every d over off-peak hours of tier 2 and 3 whose amount is half a cent before the day scaling
+    or after it, or the largest; without peak hours, and on days of another day tier."""
+    for persistent_days in range(31):
+        scaling = 100 + persistent_days
+        # U × price × 5 × (100 + d) / 40,000,000 is half a cent for U 15.625 and this price.
+        half = 256 // (scaling & -scaling) * (2 * between(rng, 0, 9999) + 1)
+        day = off_peak_day(
+            persistent_days,
+            [
+                (15625, 31250, half - 1),
+                (15625, 31250, half),
+                (15625, 31250, half + 1),
+                (15625, 31249, half),
+                (20000, 40000, 2 * (2 * between(rng, 0, 999999) + 1)),
+                (10001, 20001, between(rng, -20000000, 20000000)),
+            ],
+        )
+        # The largest amounts of tier 2 and 3.
+        for hour, requirement in zip(day.areas[0].hours[22:], (20000000, 19999999)):
+            hour.set_upward([2500000] * 4)
+            hour.requirement, hour.pairs = requirement, [(1000, 20000000)] * 12
+        yield c_call_of(day)
+        day.peak, day.areas[0].hub_a = PEAK_WORD, 100
+        failing = day.areas[0].hours[between(rng, 6, 21)]
+        failing.requirement = 100000
+        for energy_up in (10000, 20000, 60000):
+            failing.energy_up = energy_up
+            yield c_call_of(day)
+
+
 def c_call_random(rng):
     """Random days, and the smaller files of vectors/."""
     for number in range(60):
@@ -1487,6 +1538,7 @@ GROUPS = (
     (SETTLE, settle_vector_files),
     (SETTLE, settle_tier_figures),
     (SETTLE, settle_on_peak_figures),
+    (SETTLE, settle_off_peak_figures),
     (SETTLE, settle_downward_figures),
     (SETTLE, settle_halves),
     (SETTLE, settle_rooms),
@@ -1501,6 +1553,7 @@ GROUPS = (
     (C_CALL, c_call_refused),
     (C_CALL, c_call_prices_seen),
     (C_CALL, c_call_order_of_hours),
+    (C_CALL, c_call_off_peak_scaling),
     (C_CALL, c_call_random),
 )
 

@@ -40,13 +40,6 @@ module _ (body : List ℕ) (sound : Sound plainPoints body) (h : ℕ) (below : h
         where-made 1000000000 (eqb (flagOf body) 1) _
         (downward-small terms _ _ (Q.downward-small body (hourAt body h) (hour-ranged body sound h below)) (sound .mec h below always))
 
-    off-of : natAbs (offPeakOf terms (upwardAt body h) (tierAt body h) (hourPrice body h)) ≤ 4000000000
-    off-of = off-peak-small terms _ (tierAt body h) _ (Q.upward-small body (hourAt body h) (hour-ranged body sound h below)) price-small
-
-    pub off-small : natAbs (offPeakAmount terms body h) ≤ 4000000000
-    unfolding offPeakAtPrice offPeakAmount
-    off-small = where-made 4000000000 (eqb (flagOf body) 1 && not (peakHour terms h)) _ off-of
-
     module _ (kept : TermsKept terms) where
       on-of : natAbs (onPeakOf terms (dayUpward terms body) (hubPrice body) (dayTier terms body) (tierAt body h) (hourPrice body h)) ≤ 7200000000
       on-of = on-peak-small terms kept _ (most-small body sound terms) _ (dayTier terms body) (tierAt body h) _ (hub-small body sound) price-small
@@ -55,8 +48,15 @@ module _ (body : List ℕ) (sound : Sound plainPoints body) (h : ℕ) (below : h
       unfolding onPeakAtPrice onPeakAmount
       on-small = where-made 7200000000 (eqb (flagOf body) 1 && peakHour terms h) _ on-of
 
+      off-of : natAbs (offPeakOf terms (upwardAt body h) (tierAt body h) (hourPrice body h)) ≤ 5200000000
+      off-of = off-peak-small terms kept _ (Q.upward-small body (hourAt body h) (hour-ranged body sound h below)) (tierAt body h) _ price-small
+
+      pub off-small : natAbs (offPeakAmount terms body h) ≤ 5200000000
+      unfolding offPeakAtPrice offPeakAmount
+      off-small = where-made 5200000000 (eqb (flagOf body) 1 && not (peakHour terms h)) _ off-of
+
       -- an hour has an on-peak or an off-peak amount, never both
-      one-of : (f t : Bool) (on off : ℤ) → natAbs on ≤ 7200000000 → natAbs off ≤ 4000000000
+      one-of : (f t : Bool) (on off : ℤ) → natAbs on ≤ 7200000000 → natAbs off ≤ 5200000000
           → natAbs (cond (f && t) on (pos 0) +ℤ cond (f && not t) off (pos 0)) ≤ 7200000000
       one-of true true on off p q = omega (arith, abs-add on (pos 0))
       one-of true false on off p q = omega (arith, abs-add (pos 0) off)
@@ -94,6 +94,6 @@ module _ (terms : Terms) (body : List ℕ) (h : ℕ) (amounts : Amounts) (is : a
   amounts-ranged sound below kept =
       record {
         on = rw on-is (omega (arith, on-small body sound h below terms kept));
-        off = rw off-is (omega (arith, off-small body sound h below terms));
+        off = rw off-is (omega (arith, off-small body sound h below terms kept));
         down = rw down-is (omega (arith, down-small body sound h below terms));
       }

@@ -32,5 +32,6 @@ figures =
       T11-merged = (refl, refl, refl);
       T11-negated = refl;
       T12 = refl;
-      case-P = λ terms. (refl, refl);
+      case-P = (refl, refl);
+      off-peak-scaled = refl;
     }

@@ -1,5 +1,5 @@
--- The figures T1 to T12 of document 01, "Figures to hold", as one table, and the amount of its Case P. Each is over the very definitions that the
--- contracts cite.
+-- The figures T1 to T12 of document 01, "Figures to hold", as one table, the amount of its Case P, and the figure of document 02, §2. Each is over the very
+-- definitions that the contracts cite.
 -- Quantities are thousandths of a MW or MWh, hub prices and amounts cents, market prices (of an interval, of an hour, MEC) hundredths of a cent. The comment
 -- above a figure has the document's words, in MW, MWh, $ a MWh and $.
 use Prim.Native.Nat.{ℕ}
@@ -19,6 +19,10 @@ use Rattle.surcharge.specs.Surcharge.{tierOf, greaterPrice, onPeakOf, offPeakOf
 -- "M 120, hubs 80.00 and 95.50, d 3, day tier 2": the on-peak amount of an hour, by its tier and price
 abbrev pub onPeak : ℕ → ℤ → ℤ
 onPeak tier price = onPeakOf (record { peak = peakWord; days = 3 }) 120000 (greaterPrice (pos 8000) (pos 9550)) 2 tier price
+
+-- "U 40 MW, Q 60 and price 25": the off-peak amount of an hour, by d
+abbrev pub offPeak : ℕ → ℤ
+offPeak days = offPeakOf (record { peak = peakWord; days = days }) 40000 (tierOf 40000 60000) (pos 250000)
 
 -- "100 MWh at 30 and 300 at 50, ten missing", and those ten of 100 MWh each: "Filling a missing price with 0" would give less than 13
 abbrev pub intervals : List (ℕ × ℕ)
@@ -68,5 +72,7 @@ pub record Figures : Type 0 where
   pub T11-negated : shares (negℤ (pos 100)) (1 ∷ 1 ∷ 1 ∷ []) ≡ negℤ (pos 33) ∷ negℤ (pos 34) ∷ negℤ (pos 33) ∷ []
   -- 1 cent over 1, 0, 1: 1, 0, 0
   pub T12 : shares (pos 1) (1 ∷ 0 ∷ 1 ∷ []) ≡ pos 1 ∷ pos 0 ∷ pos 0 ∷ []
-  -- Case P's numbers, an off-peak hour: U 40 with Q 60 MW is tier 3, and at 25 its amount $2,000.00; d is not asked
-  pub case-P : (terms : Terms) → (tierOf 40000 60000 ≡ 3) × (offPeakOf terms 40000 (tierOf 40000 60000) (pos 250000) ≡ pos 200000)
+  -- Case P's numbers, an off-peak hour: U 40 with Q 60 MW is tier 3, and at 25, with d 0, its amount $2,000.00
+  pub case-P : (tierOf 40000 60000 ≡ 3) × (offPeak 0 ≡ pos 200000)
+  -- "With d 5, U 40 MW, Q 60 and price 25 the amount is $2,100.00"
+  pub off-peak-scaled : offPeak 5 ≡ pos 210000

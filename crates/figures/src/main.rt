@@ -1,4 +1,4 @@
-// Runs the figures of document 01 through the public calls, and prints a line for each: what is asked, then what the call
+// Runs the figures of documents 01 and 02 through the public calls, and prints a line for each: what is asked, then what the call
 // gives. Amounts are cents, prices ten-thousandths of a dollar. A day here is one area of kind 0 with one coordinator: an
 // hour is 33 words, the first hour's begin at word 15. Days are handed on by value, in room for the longest body: lent,
 // each write would cost the check of this program four times as much.
@@ -138,12 +138,16 @@ fn settled(label: &[u8], day: [u8; ROOM], hour: u8) {
     show_hour(&statement, hour);
 }
 
-// An off-peak hour at $1, where a tier of 1 costs nothing, 2 costs 1.25 and 3 costs 2 dollars a MWh.
-fn tier(label: &[u8], upward: u32, requirement: u32) {
-    let day = quiet_day(0, 0, 0, 0);
+fn off_peak(label: &[u8], days: u32, upward: u32, requirement: u32, price: u32) {
+    let day = quiet_day(0, days, 0, 0);
     let day = put_deficiency(day, 0, upward, requirement);
-    let day = put_price(day, 0, 10000);
+    let day = put_price(day, 0, price);
     settled(label, day, 0);
+}
+
+// At $1 and without persistent days a tier of 1 costs nothing, 2 costs 1.25 and 3 costs 2 dollars a MWh.
+fn tier(label: &[u8], upward: u32, requirement: u32) {
+    off_peak(label, 0, upward, requirement, 10000);
 }
 
 fn tiers() {
@@ -330,6 +334,19 @@ fn case_p() {
     show::end();
 }
 
+fn off_peak_scaling() {
+    off_peak(
+        b"Request 2, U 40, Q 60, price 25, d 5 (with d added to the multiplier it would be 205000):",
+        5,
+        40000,
+        60000,
+        250000,
+    );
+    off_peak(b"The same with d 0:", 0, 40000, 60000, 250000);
+    off_peak(b"The same with d 5, Q 80:", 5, 40000, 80000, 250000);
+    off_peak(b"The same with d 5, U 10:", 5, 10000, 60000, 250000);
+}
+
 fn put_coordinators(before: [u8; ROOM]) -> [u8; ROOM] {
     let mut day = before;
     let mut i: u8 = 0;
@@ -363,6 +380,7 @@ fn main() {
     averages();
     sharing();
     case_p();
+    off_peak_scaling();
     longest_body(b"A body of 2,951 words:", LONGEST_BODY);
     longest_body(b"Its length said to be 2,952:", LONGEST_BODY + 1);
 }

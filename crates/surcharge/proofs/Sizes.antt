@@ -12,7 +12,7 @@ use Rattle.exact.proofs.Round.{round-within}
 use Rattle.limits.specs.Ranges.{mostMarketPrice, mostHubPrice, mostDays, mostUpward, mostDownward}
 use Rattle.surcharge.specs.declared.Terms.{Terms}
 use Rattle.surcharge.specs.Ranges.{TermsKept}
-use Rattle.surcharge.specs.Surcharge.{downwardFloor, quarters, surchargeOf, creditOf, onPeakOf, offPeakOf, downwardOf}
+use Rattle.surcharge.specs.Surcharge.{downwardFloor, quarters, scaledMultiplier, surchargeOf, creditOf, onPeakOf, offPeakOf, downwardOf}
 
 pub pick : (m : ℕ) (t : Bool) (a b : ℤ) → natAbs a ≤ m → natAbs b ≤ m → natAbs (cond t a b) ≤ m
 pick m true a b h k = h
@@ -22,7 +22,7 @@ quarters-by : (t : Bool) → cond t 5 8 ≤ 8
 quarters-by true = omega arith
 quarters-by false = omega arith
 
-pub quarters-small : (tier : ℕ) → quarters tier ≤ 8
+quarters-small : (tier : ℕ) → quarters tier ≤ 8
 quarters-small tier = quarters-by (eqb tier 2)
 
 -- a quantity at a market price, times a multiplier
@@ -31,19 +31,31 @@ pub at-market-small : (m quantity : ℕ) (price multiplier : ℤ) → quantity �
 at-market-small m quantity price multiplier q p h =
     abs-mul≤ (mostUpward * mostMarketPrice) m (pos quantity *ℤ price) multiplier (abs-mul≤ mostUpward mostMarketPrice (pos quantity) price q p) h
 
--- m × (1 + d/100), in four-hundredths
-pub scaling-small : (tier days : ℕ) → days ≤ mostDays → quarters tier * (100 + days) ≤ 1040
-scaling-small tier days h =
-    let p : 100 + days ≤ 130 = omega arith in
-    omega (arith, mul-le-mul (quarters-small tier) p)
+module _ (terms : Terms) (kept : TermsKept terms) where
+  pub multiplier-small : (tier : ℕ) → scaledMultiplier terms tier ≤ 1040
+  multiplier-small tier =
+      let p : 100 + terms .days ≤ 130 = omega (arith, kept .days) in
+      omega (arith, mul-le-mul (quarters-small tier) p)
+
+  module _ (upward : ℕ) (upward-small : upward ≤ mostUpward) (tier : ℕ) (price : ℤ) (price-small : natAbs price ≤ mostMarketPrice) where
+    -- U × price × m × (1 + d/100)
+    pub scaled-small : natAbs ((pos upward *ℤ price) *ℤ pos (scaledMultiplier terms tier)) ≤ 208000000000000000
+    scaled-small = at-market-small 1040 upward price (pos (scaledMultiplier terms tier)) upward-small price-small (multiplier-small tier)
+
+    pub off-peak-small : natAbs (offPeakOf terms upward tier price) ≤ 5200000000
+    unfolding offPeakOf
+    off-peak-small =
+        pick 5200000000 (leb tier 1) _ _ zero-le
+        (round-within 5200000000 _ 40000000 (omega arith)
+        (omega (arith, abs-at-least ((pos upward *ℤ price) *ℤ pos (scaledMultiplier terms tier)), scaled-small)))
 
 module _ (terms : Terms) (kept : TermsKept terms) (most : ℕ) (most-small : most ≤ mostUpward) where
   -- M × P × m × (1 + d/100)
   pub product-small : (hub : ℤ) (tier : ℕ) → natAbs hub ≤ mostHubPrice
-      → natAbs ((pos most *ℤ hub) *ℤ pos (quarters tier * (100 + terms .days))) ≤ 2080000000000000
+      → natAbs ((pos most *ℤ hub) *ℤ pos (scaledMultiplier terms tier)) ≤ 2080000000000000
   product-small hub tier h =
-      abs-mul≤ (mostUpward * mostHubPrice) 1040 (pos most *ℤ hub) (pos (quarters tier * (100 + terms .days)))
-      (abs-mul≤ mostUpward mostHubPrice (pos most) hub most-small h) (scaling-small tier (terms .days) (kept .days))
+      abs-mul≤ (mostUpward * mostHubPrice) 1040 (pos most *ℤ hub) (pos (scaledMultiplier terms tier))
+      (abs-mul≤ mostUpward mostHubPrice (pos most) hub most-small h) (multiplier-small terms kept tier)
 
   surcharge-small : (hub : ℤ) (tier : ℕ) → natAbs hub ≤ mostHubPrice → natAbs (surchargeOf terms most hub tier) ≤ 2080000000000000
   unfolding surchargeOf
@@ -67,15 +79,6 @@ module _ (terms : Terms) (kept : TermsKept terms) (most : ℕ) (most-small : mos
       let z = surchargeOf terms most hub dayTier -ℤ creditOf most tier price in
       pick 7200000000 (leb dayTier 1) _ _ zero-le
       (round-within 7200000000 (atLeastZero z) 400000 (omega arith) (omega (arith, abs-at-least z, difference-small hub dayTier tier price h p)))
-
-pub off-peak-small : (terms : Terms) (upward tier : ℕ) (price : ℤ) → upward ≤ mostUpward → natAbs price ≤ mostMarketPrice
-    → natAbs (offPeakOf terms upward tier price) ≤ 4000000000
-unfolding offPeakOf
-off-peak-small terms upward tier price u p =
-    let z = (pos upward *ℤ price) *ℤ pos (quarters tier) in
-    pick 4000000000 (leb tier 1) _ _ zero-le
-    (round-within 4000000000 (atLeastZero z) 400000 (omega arith)
-    (omega (arith, abs-at-least z, at-market-small 8 upward price (pos (quarters tier)) u p (quarters-small tier))))
 
 pub downward-small : (terms : Terms) (downward : ℕ) (mec : ℤ) → downward ≤ mostDownward → natAbs mec ≤ mostMarketPrice
     → natAbs (downwardOf terms downward mec) ≤ 1000000000

@@ -36,13 +36,17 @@ tierOf upward requirement =
 abbrev pub quarters : ℕ → ℕ
 quarters tier = cond (eqb tier 2) 5 8
 
+-- "m × (1 + d/100)", in four-hundredths: "the day scaling multiplies m, as the formula has it"
+abbrev pub scaledMultiplier : Terms → (tier : ℕ) → ℕ
+scaledMultiplier terms tier = quarters tier * (100 + terms .days)
+
 -- P, "the greater hub price"
 abbrev pub greaterPrice : ℤ → ℤ → ℤ
 greaterPrice a b = cond (ltZ a b) b a
 
 -- "S = max(0, M × P × m × (1 + d/100))", over 400,000
 unfoldable pub surchargeOf : (terms : Terms) (most : ℕ) (hub : ℤ) (dayTier : ℕ) → ℤ
-surchargeOf terms most hub dayTier = atLeastZero ((pos most *ℤ hub) *ℤ pos (quarters dayTier * (100 + terms .days)))
+surchargeOf terms most hub dayTier = atLeastZero ((pos most *ℤ hub) *ℤ pos (scaledMultiplier terms dayTier))
 
 -- "In a peak hour of tier 0 the credit is M × its load-weighted price (rules 6.4, 6.5); elsewhere 0", over 400,000
 unfoldable pub creditOf : (most tier : ℕ) (price : ℤ) → ℤ
@@ -53,10 +57,9 @@ unfoldable pub onPeakOf : (terms : Terms) (most : ℕ) (hub : ℤ) (dayTier tier
 onPeakOf terms most hub dayTier tier price =
     cond (leb dayTier 1) (pos 0) (roundDiv (atLeastZero (surchargeOf terms most hub dayTier -ℤ creditOf most tier price)) 400000)
 
--- "tier 0 and 1 give 0; otherwise R(max(0, U × load-weighted price × m)) with the hour's own tier". "No day scaling (formula)":
--- the terms do not enter into it
+-- "tier 0 and 1 give 0"; otherwise "R(max(0, U × price × m × (1 + d/100))), rounded once", "with the hour's own tier"
 unfoldable pub offPeakOf : (terms : Terms) (upward tier : ℕ) (price : ℤ) → ℤ
-offPeakOf terms upward tier price = cond (leb tier 1) (pos 0) (roundDiv (atLeastZero ((pos upward *ℤ price) *ℤ pos (quarters tier))) 400000)
+offPeakOf terms upward tier price = cond (leb tier 1) (pos 0) (roundDiv (atLeastZero ((pos upward *ℤ price) *ℤ pos (scaledMultiplier terms tier))) 40000000)
 
 -- "If W > 10 MW, R(min(0, W × MEC)), otherwise 0"; the terms do not enter into it
 unfoldable pub downwardOf : (terms : Terms) (downward : ℕ) (mec : ℤ) → ℤ

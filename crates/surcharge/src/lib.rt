@@ -8,8 +8,8 @@ ghost use mathlib.Core.Path.{_≡_};
 ghost use Prim.Native.Nat.{_≤_};
 ghost use lib.IntN.{natAbs};
 ghost use Rattle.limits.specs.Ranges.{mostMarketPrice, mostUpward};
-ghost use Rattle.surcharge.specs.Surcharge.{tierOf, peakHour, quarters, surchargeOf, creditOf, onPeakOf, offPeakOf, downwardOf, needsPrice};
-ghost use Rattle.surcharge.specs.Surcharge.{greaterPrice};
+ghost use Rattle.surcharge.specs.Surcharge.{tierOf, peakHour, quarters, scaledMultiplier, surchargeOf, creditOf, onPeakOf, offPeakOf, downwardOf};
+ghost use Rattle.surcharge.specs.Surcharge.{greaterPrice, needsPrice};
 ghost use Rattle.surcharge.specs.Ranges.{TermsKept, DayRanged};
 
 // Up to 10 MW a shortage is of tier 1.
@@ -75,6 +75,14 @@ fn quarters_of(tier: u32) -> u32
     8
 }
 
+// m × (1 + d/100), in four-hundredths.
+fn scaled_multiplier(terms: Terms, tier: u32) -> u32
+    requires { ⌜ TermsKept terms ⌝ }
+    ensures { λ r. ⌜ r ≡ scaledMultiplier terms tier ⌝ }
+{
+    quarters_of(tier) * (100 + terms.days)
+}
+
 pub fn price_needed(flag: u32, peak: bool, day: u32, tier: u32) -> bool
     ensures { λ r. ⌜ r ≡ needsPrice flag peak day tier ⌝ }
 {
@@ -100,8 +108,9 @@ pub fn downward(terms: Terms, quantity: Quantity, mec: MarketPrice) -> Cents
     quantity.at_market_price(mec).at_most_zero().rounded()
 }
 
-// The terms do not enter into it: no day scaling.
+// Of the hour's own U and tier.
 pub fn off_peak(terms: Terms, upward: Quantity, tier: u32, price: MarketPrice) -> Cents
+    requires { ⌜ TermsKept terms ⌝ }
     requires { ⌜ (upward .0 ≤ mostUpward) × (natAbs (price .0) ≤ mostMarketPrice) ⌝ }
     ensures { λ r. ⌜ r .0 ≡ offPeakOf terms (upward .0) tier (price .0) ⌝ }
 {
@@ -110,7 +119,7 @@ pub fn off_peak(terms: Terms, upward: Quantity, tier: u32, price: MarketPrice) -
     }
     upward
         .at_market_price(price)
-        .scaled(quarters_of(tier))
+        .scaled(scaled_multiplier(terms, tier))
         .at_least_zero()
         .rounded()
 }
@@ -122,7 +131,7 @@ fn surcharge(terms: Terms, day: Day) -> CentsOver400000
 {
     let most = day.most;
     most.at_hub_price(day.hub)
-        .scaled(quarters_of(day.tier), 100 + terms.days)
+        .scaled(scaled_multiplier(terms, day.tier))
         .at_least_zero()
 }
 
@@ -132,7 +141,7 @@ fn credit(most: Quantity, tier: u32, price: MarketPrice) -> CentsOver400000
     ensures { λ r. ⌜ r .0 ≡ creditOf (most .0) tier (price .0) ⌝ }
 {
     if tier == 0 {
-        return most.at_market_price(price).scaled(4);
+        return most.at_market_price(price).over_400000();
     }
     CentsOver400000(0)
 }

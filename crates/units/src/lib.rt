@@ -1,7 +1,7 @@
 // The units of docs/RULES.md, section 1, each a struct of one number, so that megawatts, dollars a megawatt-hour and dollars stay apart.
 // A quantity times a price is an amount over that product's own denominator; nothing here adds one unit to another.
 ghost use mathlib.Core.Path.{_≡_};
-ghost use Prim.Native.Nat.{_+_, _*_, _<_, _^_};
+ghost use Prim.Native.Nat.{_+_, _<_, _^_};
 ghost use lib.IntN.{pos, _+ℤ_, _-ℤ_, _*ℤ_};
 ghost use mir.Syntax.{w32, w64};
 ghost use mir.Val.{SFits};
@@ -26,8 +26,11 @@ pub struct CentsOver1000(pub i64);
 // A quantity at a market price: cents, over 100,000.
 pub struct CentsOver100000(pub i64);
 
-// A surcharge or a credit: cents, over 400,000, the one denominator of both.
+// S or a credit: cents, over 400,000, the one denominator of both.
 pub struct CentsOver400000(pub i64);
+
+// A quantity at a market price, times a multiplier of so many four-hundredths: cents, over 40,000,000.
+pub struct CentsOver40000000(pub i64);
 
 impl Quantity {
     pub fn plus(self, more: Quantity) -> Quantity
@@ -51,13 +54,12 @@ impl Quantity {
 }
 
 impl CentsOver1000 {
-    // Times a multiplier of so many quarters and so many hundredths.
-    pub fn scaled(self, quarters: u32, hundredths: u32) -> CentsOver400000
-        requires { ⌜ quarters * hundredths < 2 ^ 32 ⌝ }
-        requires { ⌜ SFits w64 (self .0 *ℤ pos (quarters * hundredths)) ⌝ }
-        ensures { λ r. ⌜ r .0 ≡ self .0 *ℤ pos (quarters * hundredths) ⌝ }
+    // Times a multiplier of so many four-hundredths.
+    pub fn scaled(self, multiplier: u32) -> CentsOver400000
+        requires { ⌜ SFits w64 (self .0 *ℤ pos multiplier) ⌝ }
+        ensures { λ r. ⌜ r .0 ≡ self .0 *ℤ pos multiplier ⌝ }
     {
-        CentsOver400000(exact::times(self.0, quarters * hundredths))
+        CentsOver400000(exact::times(self.0, multiplier))
     }
 }
 
@@ -69,12 +71,20 @@ impl CentsOver100000 {
         CentsOver100000(self.0 + more.0)
     }
 
-    // Times a multiplier of so many quarters.
-    pub fn scaled(self, quarters: u32) -> CentsOver400000
-        requires { ⌜ SFits w64 (self .0 *ℤ pos quarters) ⌝ }
-        ensures { λ r. ⌜ r .0 ≡ self .0 *ℤ pos quarters ⌝ }
+    // Times a multiplier of so many four-hundredths.
+    pub fn scaled(self, multiplier: u32) -> CentsOver40000000
+        requires { ⌜ SFits w64 (self .0 *ℤ pos multiplier) ⌝ }
+        ensures { λ r. ⌜ r .0 ≡ self .0 *ℤ pos multiplier ⌝ }
     {
-        CentsOver400000(exact::times(self.0, quarters))
+        CentsOver40000000(exact::times(self.0, multiplier))
+    }
+
+    // The same amount over the denominator of S.
+    pub fn over_400000(self) -> CentsOver400000
+        requires { ⌜ SFits w64 (self .0 *ℤ pos 4) ⌝ }
+        ensures { λ r. ⌜ r .0 ≡ self .0 *ℤ pos 4 ⌝ }
+    {
+        CentsOver400000(exact::times(self.0, 4))
     }
 
     pub fn at_most_zero(self) -> CentsOver100000
@@ -117,6 +127,20 @@ impl CentsOver400000 {
         ensures { λ r. ⌜ r .0 ≡ roundDiv (self .0) 400000 ⌝ }
     {
         Cents(exact::round_div(self.0, 400000))
+    }
+}
+
+impl CentsOver40000000 {
+    pub fn at_least_zero(self) -> CentsOver40000000
+        ensures { λ r. ⌜ r .0 ≡ atLeastZero (self .0) ⌝ }
+    {
+        CentsOver40000000(exact::at_least_zero(self.0))
+    }
+
+    pub fn rounded(self) -> Cents
+        ensures { λ r. ⌜ r .0 ≡ roundDiv (self .0) 40000000 ⌝ }
+    {
+        Cents(exact::round_div(self.0, 40000000))
     }
 }
 

@@ -125,7 +125,7 @@ off-peak-requires : tie.Need-off-peak-requires
 off-peak-requires c κs =
     let s = to-start (c .before) in
     let r = hour-ranged (now (s .args .body)) (s .pre .sound) (s .args .h) (s .pre .below) in
-    (rw (upward-is (to-facts (c .before))) (upward-small _ _ r), price-small (c .before))
+    (s .pre .kept, (rw (upward-is (to-facts (c .before))) (upward-small _ _ r), price-small (c .before)))
 
 returns-3 : tie.Need-returns-3
 returns-3 c =

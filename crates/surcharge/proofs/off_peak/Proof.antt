@@ -7,16 +7,17 @@ use mir.Syntax.{w64}
 use Rattle.exact.specs.Round.{roundDiv}
 use Rattle.exact.specs.Floor.{atLeastZero}
 use Rattle.exact.proofs.Machine.{within}
-use Rattle.surcharge.specs.Surcharge.{quarters, offPeakOf}
-use Rattle.surcharge.proofs.Sizes.{at-market-small, quarters-small}
+use Rattle.surcharge.specs.Surcharge.{scaledMultiplier, offPeakOf}
+use Rattle.surcharge.proofs.Sizes.{scaled-small}
 use Rattle.surcharge.proofs.off_peak.Statement.{statement}
 use Rattle.surcharge.proofs.off_peak.Tie as tie
 
--- U × price, and with the multiplier
-value : (c : tie.After-quarters-of) →
+-- U × price × m × (1 + d/100)
+value : (c : tie.After-scaled-multiplier) →
     let s = c .before .before .before .args in
-    (c .before .at-market-price .result .0) *ℤ pos (c .quarters-of .result) ≡ (pos (s .upward .0) *ℤ s .price .0) *ℤ pos (quarters (s .tier))
-value c = ap₂ (λ z n. z *ℤ pos n) (c .before .at-market-price .ensures) (c .quarters-of .ensures)
+    (c .before .at-market-price .result .0) *ℤ pos (c .scaled-multiplier .result)
+    ≡ (pos (s .upward .0) *ℤ s .price .0) *ℤ pos (scaledMultiplier (s .terms) (s .tier))
+value c = ap₂ (λ z n. z *ℤ pos n) (c .before .at-market-price .ensures) (c .scaled-multiplier .ensures)
 
 returns : tie.Need-returns
 unfolding offPeakOf
@@ -26,14 +27,14 @@ scaled-requires : tie.Need-scaled-requires
 scaled-requires c κs =
     let s = c .before .before .before in
     let a = s .args in
-    rw (value c)
-    (within w64 _ (omega (arith, at-market-small 8 (a .upward .0) (a .price .0) (pos (quarters (a .tier))) (s .pre .0) (s .pre .1) (quarters-small (a .tier)))))
+    let k = s .pre .1 in
+    rw (value c) (within w64 _ (omega (arith, scaled-small (a .terms) (s .pre .0) (a .upward .0) (k .0) (a .tier) (a .price .0) (k .1))))
 
 returns-2 : tie.Need-returns-2
 unfolding offPeakOf
 returns-2 c =
     c .rounded .ensures
-    ∙ ap (λ z. roundDiv z 400000)
+    ∙ ap (λ z. roundDiv z 40000000)
     (c .before .at-least-zero .ensures ∙ ap atLeastZero (c .before .before .scaled .ensures ∙ value (c .before .before .before)))
     ∙ simp (lt-leb _ _ (c .before .before .before .before .before .if1 .left))
 

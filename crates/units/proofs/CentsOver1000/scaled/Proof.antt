@@ -9,4 +9,4 @@ returns : tie.Need-returns
 returns c = got w64 (c .times .ok) (c .times .ensures ∙ search needs)
 
 pub scaled-spec : {M : Type 1} → statement M
-scaled-spec = tie.close (tie.spec (λ c. search needs) (λ c κs. search needs) returns)
+scaled-spec = tie.close (tie.spec (λ c κs. search needs) returns)

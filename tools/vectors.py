@@ -868,7 +868,7 @@ def settle_halves(rng):
             hour.mec = -100 * (2 * between(rng, 0, 999) + 1)
             if not 6 <= number < 22:
                 # Off-peak in cents is U × price × (100 + d) / 8,000,000 in tier 2 and / 5,000,000 in
-                # tier 3: a half for U × price an odd number of times half of that.
+                # tier 3: a half for U × price an odd number of times 4,000,000 or 2,500,000.
                 hour.requirement = 100000
                 hour.energy_up, step = rng.choice(((20000, 200), (12500, 320), (32000, 125), (62500, 40)))
                 hour.pairs = [(1000, step * (2 * between(rng, 0, 9999) + 1))] * 12

@@ -9,7 +9,7 @@ use Rattle.exact.specs.Floor.{atLeastZero, atMostZero}
 use Rattle.exact.proofs.Magnitude.{abs-minus, abs-mul≤}
 use Rattle.exact.proofs.Floor.{abs-at-least, abs-at-most}
 use Rattle.exact.proofs.Round.{round-within}
-use Rattle.limits.specs.Ranges.{mostMarketPrice, mostHubPrice, mostDays, mostUpward, mostDownward}
+use Rattle.limits.specs.Ranges.{mostMarketPrice, mostHubPrice, mostUpward, mostDownward}
 use Rattle.surcharge.specs.declared.Terms.{Terms}
 use Rattle.surcharge.specs.Ranges.{TermsKept}
 use Rattle.surcharge.specs.Surcharge.{downwardFloor, quarters, scaledMultiplier, surchargeOf, creditOf, onPeakOf, offPeakOf, downwardOf}

@@ -267,7 +267,7 @@ static inline int price_needed(const area_t *a, int peak, uint32_t tier)
     return a->flag == 1 && (peak ? a->tier >= 2 && tier == 0 : tier >= 2);
 }
 
-/* m × (1 + d/100) of a tier of the area's day, in four-hundredths. */
+/* m * (1 + d/100) for a tier, in four-hundredths. */
 static inline int64_t scaled_multiplier(const area_t *a, uint32_t tier)
 {
     return (tier == 2 ? 5 : 8) * (100 + (int64_t)a->days);

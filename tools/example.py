@@ -78,7 +78,8 @@ UPWARD = {
     # On-peak, day tier 3: 52 MW of 76.
     (1103, 17): (20, 4, 6, 0),
     (1103, 18): (40, 4, 8, 0),
-    # CISO: off-peak tier 2, 410 MW of 1,100; on-peak tier 1 alone, which costs nothing.
+    # CISO, d 1: off-peak tier 2, 410 MW of 1,100, which d scales; on-peak tier 1 alone, which costs
+    # nothing.
     (1104, 5): (300, 40, 70, 0),
     (1104, 19): (10, 0, 0, 0),
     # On-peak tier 1 alone.

@@ -1,13 +1,14 @@
 #!/usr/bin/env python3
-"""The rules of document 01, and of document 02 as far as its requests are taken up (§1, §2), as plain
-functions: the check, the settlement, the price of an hour, the sharing of an amount, the lookup,
-the C call and the program.
+"""The rules of document 01, and of document 02 as far as its requests are taken up (§1, §2), as
+plain functions: the check, the settlement, the price of an hour, the sharing of an amount, the
+lookup, the C call and the program.
 
 It is written to be read beside these documents and to be right, not to be fast. Quantities, prices
 and amounts are exact fractions in MW, dollars a MWh and dollars, and are rounded once, by R. It
 shares no code with the crates, so that an agreement of the two says something.
 
-Run as a program it prints the figures T1 to T12 and Case P, and exits 1 if one is off.
+Run as a program it prints the figures T1 to T12, that of document 02, §2, and Case P, and exits 1
+if one is off.
 """
 
 import datetime
@@ -614,6 +615,19 @@ def on_peak_figures():
     yield "T7 a passed hour at -5", 1535475, amount[10]
 
 
+def off_peak_figures():
+    """Document 02, §2, in the statement of a whole day file: U 40 MW, Q 60, price 25 and d 5."""
+    import days
+
+    area = days.quiet_area(number=7, kind=0, load_points=1, coordinators=[12])
+    area.persistent_days = 5
+    hour = area.hours[2]
+    hour.energy_up, hour.requirement, hour.pairs = 40000, 60000, [(1000, 250000)] * 12
+    file_bytes = days.Day(20260504, PEAK_WORD, [area]).to_bytes()
+    number, place, statement = settle(file_bytes, [0] * 96)
+    yield "U 40, Q 60, price 25, d 5", (0, 0, 210000), (number, place, statement[4 * 2 + 1])
+
+
 def downward_figures():
     """T8 and T9."""
     yield "T8 W 10.000 at -100", 0, downward(Fraction("10.000"), Fraction(-100))
@@ -656,6 +670,7 @@ def main():
         rounding_figures,
         tier_figures,
         on_peak_figures,
+        off_peak_figures,
         downward_figures,
         call_figures,
     ):

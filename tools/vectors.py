@@ -800,7 +800,7 @@ def settle_on_peak_figures(rng):
 
 
 def off_peak_day(persistent_days, figures):
-    """The hours outside the peak hours have these U, Q and prices, in order; no hour is a peak hour."""
+    """No peak hours; those outside the usual ones have these U, Q and prices, in order."""
     day = days.quiet_day([SMALL], peak=0, pair=(1000, 0))
     area = day.areas[0]
     area.persistent_days = persistent_days
@@ -870,7 +870,8 @@ def settle_halves(rng):
                 # Off-peak in cents is U × price × (100 + d) / 8,000,000 in tier 2 and / 5,000,000 in
                 # tier 3: a half for U × price an odd number of times 4,000,000 or 2,500,000.
                 hour.requirement = 100000
-                hour.energy_up, step = rng.choice(((20000, 200), (12500, 320), (32000, 125), (62500, 40)))
+                choices = ((20000, 200), (12500, 320), (32000, 125), (62500, 40))
+                hour.energy_up, step = rng.choice(choices)
                 hour.pairs = [(1000, step * (2 * between(rng, 0, 9999) + 1))] * 12
         area.hours[between(rng, 6, 21)].spin = M
         yield Case(SETTLE, 24 * 5, day.to_bytes())

@@ -19,7 +19,7 @@ use Rattle.amounts.specs.declared.Amounts.{Amounts}
 use Rattle.amounts.specs.Ranges.{AmountsRanged}
 use Rattle.amounts.specs.Amounts.{upwardAt, tierAt, dayTier, dayUpward, hubPrice, hourPrice, priceFrom, onPeakAtPrice, offPeakAtPrice}
 use Rattle.amounts.specs.Amounts.{onPeakAmount, offPeakAmount, downwardAmount, amountAt, amountsOf}
-use Rattle.surcharge.proofs.Sizes.{on-peak-small, off-peak-small, downward-small}
+use Rattle.surcharge.proofs.Sizes.{mostOnPeakAmount, mostOffPeakAmount, mostDownwardAmount, on-peak-small, off-peak-small, downward-small}
 use Rattle.amounts.proofs.Quantities as Q
 use Rattle.amounts.proofs.Hours.{hour-ranged, pairs-ranged, most-small, hub-small}
 
@@ -34,35 +34,35 @@ module _ (body : List ℕ) (sound : Sound plainPoints body) (h : ℕ) (below : h
   price-small = price-within _ _ (pairs-ranged body sound h below .ranged)
 
   module _ (terms : Terms) where
-    pub down-small : natAbs (downwardAmount terms body h) ≤ 1000000000
+    pub down-small : natAbs (downwardAmount terms body h) ≤ mostDownwardAmount
     unfolding downwardAmount
     down-small =
-        where-made 1000000000 (eqb (flagOf body) 1) _
+        where-made mostDownwardAmount (eqb (flagOf body) 1) _
         (downward-small terms _ _ (Q.downward-small body (hourAt body h) (hour-ranged body sound h below)) (sound .mec h below always))
 
     module _ (kept : TermsKept terms) where
-      on-of : natAbs (onPeakOf terms (dayUpward terms body) (hubPrice body) (dayTier terms body) (tierAt body h) (hourPrice body h)) ≤ 7200000000
+      on-of : natAbs (onPeakOf terms (dayUpward terms body) (hubPrice body) (dayTier terms body) (tierAt body h) (hourPrice body h)) ≤ mostOnPeakAmount
       on-of = on-peak-small terms kept _ (most-small body sound terms) _ (dayTier terms body) (tierAt body h) _ (hub-small body sound) price-small
 
-      pub on-small : natAbs (onPeakAmount terms body h) ≤ 7200000000
+      pub on-small : natAbs (onPeakAmount terms body h) ≤ mostOnPeakAmount
       unfolding onPeakAtPrice onPeakAmount
-      on-small = where-made 7200000000 (eqb (flagOf body) 1 && peakHour terms h) _ on-of
+      on-small = where-made mostOnPeakAmount (eqb (flagOf body) 1 && peakHour terms h) _ on-of
 
-      off-of : natAbs (offPeakOf terms (upwardAt body h) (tierAt body h) (hourPrice body h)) ≤ 5200000000
+      off-of : natAbs (offPeakOf terms (upwardAt body h) (tierAt body h) (hourPrice body h)) ≤ mostOffPeakAmount
       off-of = off-peak-small terms kept _ (Q.upward-small body (hourAt body h) (hour-ranged body sound h below)) (tierAt body h) _ price-small
 
-      pub off-small : natAbs (offPeakAmount terms body h) ≤ 5200000000
+      pub off-small : natAbs (offPeakAmount terms body h) ≤ mostOffPeakAmount
       unfolding offPeakAtPrice offPeakAmount
-      off-small = where-made 5200000000 (eqb (flagOf body) 1 && not (peakHour terms h)) _ off-of
+      off-small = where-made mostOffPeakAmount (eqb (flagOf body) 1 && not (peakHour terms h)) _ off-of
 
       -- an hour has an on-peak or an off-peak amount, never both
-      one-of : (f t : Bool) (on off : ℤ) → natAbs on ≤ 7200000000 → natAbs off ≤ 5200000000
-          → natAbs (cond (f && t) on (pos 0) +ℤ cond (f && not t) off (pos 0)) ≤ 7200000000
+      one-of : (f t : Bool) (on off : ℤ) → natAbs on ≤ mostOnPeakAmount → natAbs off ≤ mostOffPeakAmount
+          → natAbs (cond (f && t) on (pos 0) +ℤ cond (f && not t) off (pos 0)) ≤ mostOnPeakAmount
       one-of true true on off p q = omega (arith, abs-add on (pos 0))
       one-of true false on off p q = omega (arith, abs-add (pos 0) off)
       one-of false t on off p q = zero-le
 
-      upward-small : natAbs (onPeakAmount terms body h +ℤ offPeakAmount terms body h) ≤ 7200000000
+      upward-small : natAbs (onPeakAmount terms body h +ℤ offPeakAmount terms body h) ≤ mostOnPeakAmount
       unfolding onPeakAtPrice offPeakAtPrice onPeakAmount offPeakAmount
       upward-small = one-of (eqb (flagOf body) 1) (peakHour terms h) _ _ on-of off-of
 

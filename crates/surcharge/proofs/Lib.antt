@@ -1,3 +1,4 @@
 pub mod Sizes
+pub mod Rounded
 pub mod Unneeded
 pub mod PeakHours

@@ -9,10 +9,24 @@ use Rattle.exact.specs.Floor.{atLeastZero, atMostZero}
 use Rattle.exact.proofs.Magnitude.{abs-minus, abs-mul≤}
 use Rattle.exact.proofs.Floor.{abs-at-least, abs-at-most}
 use Rattle.exact.proofs.Round.{round-within}
-use Rattle.limits.specs.Ranges.{mostMarketPrice, mostHubPrice, mostUpward, mostDownward}
+use Rattle.limits.specs.Ranges.{mostMarketPrice, mostHubPrice, mostDays, mostUpward, mostDownward}
 use Rattle.surcharge.specs.declared.Terms.{Terms}
 use Rattle.surcharge.specs.Ranges.{TermsKept}
 use Rattle.surcharge.specs.Surcharge.{downwardFloor, quarters, scaledMultiplier, surchargeOf, creditOf, onPeakOf, offPeakOf, downwardOf}
+
+-- m × (1 + d/100) at most, in four-hundredths
+abbrev mostMultiplier : ℕ
+mostMultiplier = 8 * (100 + mostDays)
+
+-- what each amount comes to at most, in cents
+abbrev pub mostOnPeakAmount : ℕ
+mostOnPeakAmount = 7200000000
+
+abbrev pub mostOffPeakAmount : ℕ
+mostOffPeakAmount = 5200000000
+
+abbrev pub mostDownwardAmount : ℕ
+mostDownwardAmount = 1000000000
 
 pub pick : (m : ℕ) (t : Bool) (a b : ℤ) → natAbs a ≤ m → natAbs b ≤ m → natAbs (cond t a b) ≤ m
 pick m true a b h k = h
@@ -32,58 +46,58 @@ at-market-small m quantity price multiplier q p h =
     abs-mul≤ (mostUpward * mostMarketPrice) m (pos quantity *ℤ price) multiplier (abs-mul≤ mostUpward mostMarketPrice (pos quantity) price q p) h
 
 module _ (terms : Terms) (kept : TermsKept terms) where
-  pub multiplier-small : (tier : ℕ) → scaledMultiplier terms tier ≤ 1040
+  pub multiplier-small : (tier : ℕ) → scaledMultiplier terms tier ≤ mostMultiplier
   multiplier-small tier =
-      let p : 100 + terms .days ≤ 130 = omega (arith, kept .days) in
-      omega (arith, mul-le-mul (quarters-small tier) p)
+      let p : 100 + terms .days ≤ 100 + mostDays = omega (arith, kept .days) in
+      mul-le-mul (quarters-small tier) p
 
   module _ (upward : ℕ) (upward-small : upward ≤ mostUpward) (tier : ℕ) (price : ℤ) (price-small : natAbs price ≤ mostMarketPrice) where
     -- U × price × m × (1 + d/100)
-    pub scaled-small : natAbs ((pos upward *ℤ price) *ℤ pos (scaledMultiplier terms tier)) ≤ 208000000000000000
-    scaled-small = at-market-small 1040 upward price (pos (scaledMultiplier terms tier)) upward-small price-small (multiplier-small tier)
+    pub scaled-small : natAbs ((pos upward *ℤ price) *ℤ pos (scaledMultiplier terms tier)) ≤ mostUpward * mostMarketPrice * mostMultiplier
+    scaled-small = at-market-small mostMultiplier upward price (pos (scaledMultiplier terms tier)) upward-small price-small (multiplier-small tier)
 
-    pub off-peak-small : natAbs (offPeakOf terms upward tier price) ≤ 5200000000
+    pub off-peak-small : natAbs (offPeakOf terms upward tier price) ≤ mostOffPeakAmount
     unfolding offPeakOf
     off-peak-small =
-        pick 5200000000 (leb tier 1) _ _ zero-le
-        (round-within 5200000000 _ 40000000 (omega arith)
+        pick mostOffPeakAmount (leb tier 1) _ _ zero-le
+        (round-within mostOffPeakAmount _ 40000000 (omega arith)
         (omega (arith, abs-at-least ((pos upward *ℤ price) *ℤ pos (scaledMultiplier terms tier)), scaled-small)))
 
 module _ (terms : Terms) (kept : TermsKept terms) (most : ℕ) (most-small : most ≤ mostUpward) where
   -- M × P × m × (1 + d/100)
   pub product-small : (hub : ℤ) (tier : ℕ) → natAbs hub ≤ mostHubPrice
-      → natAbs ((pos most *ℤ hub) *ℤ pos (scaledMultiplier terms tier)) ≤ 2080000000000000
+      → natAbs ((pos most *ℤ hub) *ℤ pos (scaledMultiplier terms tier)) ≤ mostUpward * mostHubPrice * mostMultiplier
   product-small hub tier h =
-      abs-mul≤ (mostUpward * mostHubPrice) 1040 (pos most *ℤ hub) (pos (scaledMultiplier terms tier))
+      abs-mul≤ (mostUpward * mostHubPrice) mostMultiplier (pos most *ℤ hub) (pos (scaledMultiplier terms tier))
       (abs-mul≤ mostUpward mostHubPrice (pos most) hub most-small h) (multiplier-small terms kept tier)
 
-  surcharge-small : (hub : ℤ) (tier : ℕ) → natAbs hub ≤ mostHubPrice → natAbs (surchargeOf terms most hub tier) ≤ 2080000000000000
+  surcharge-small : (hub : ℤ) (tier : ℕ) → natAbs hub ≤ mostHubPrice → natAbs (surchargeOf terms most hub tier) ≤ mostUpward * mostHubPrice * mostMultiplier
   unfolding surchargeOf
   surcharge-small hub tier h = le-trans (abs-at-least _) (product-small hub tier h)
 
-  credit-small : (tier : ℕ) (price : ℤ) → natAbs price ≤ mostMarketPrice → natAbs (creditOf most tier price) ≤ 800000000000000
+  credit-small : (tier : ℕ) (price : ℤ) → natAbs price ≤ mostMarketPrice → natAbs (creditOf most tier price) ≤ mostUpward * mostMarketPrice * 4
   unfolding creditOf
   credit-small tier price h =
-      pick 800000000000000 (eqb tier 0) _ _ (at-market-small 4 most price (pos 4) most-small h (omega arith)) zero-le
+      pick (mostUpward * mostMarketPrice * 4) (eqb tier 0) _ _ (at-market-small 4 most price (pos 4) most-small h (omega arith)) zero-le
 
   -- S less the credit
   pub difference-small : (hub : ℤ) (dayTier tier : ℕ) (price : ℤ) → natAbs hub ≤ mostHubPrice → natAbs price ≤ mostMarketPrice
-      → natAbs (surchargeOf terms most hub dayTier -ℤ creditOf most tier price) ≤ 2880000000000000
+      → natAbs (surchargeOf terms most hub dayTier -ℤ creditOf most tier price) ≤ mostOnPeakAmount * 400000
   difference-small hub dayTier tier price h p =
       omega (arith, abs-minus (surchargeOf terms most hub dayTier) (creditOf most tier price), surcharge-small hub dayTier h, credit-small tier price p)
 
   pub on-peak-small : (hub : ℤ) (dayTier tier : ℕ) (price : ℤ) → natAbs hub ≤ mostHubPrice → natAbs price ≤ mostMarketPrice
-      → natAbs (onPeakOf terms most hub dayTier tier price) ≤ 7200000000
+      → natAbs (onPeakOf terms most hub dayTier tier price) ≤ mostOnPeakAmount
   unfolding onPeakOf
   on-peak-small hub dayTier tier price h p =
       let z = surchargeOf terms most hub dayTier -ℤ creditOf most tier price in
-      pick 7200000000 (leb dayTier 1) _ _ zero-le
-      (round-within 7200000000 (atLeastZero z) 400000 (omega arith) (omega (arith, abs-at-least z, difference-small hub dayTier tier price h p)))
+      pick mostOnPeakAmount (leb dayTier 1) _ _ zero-le
+      (round-within mostOnPeakAmount (atLeastZero z) 400000 (omega arith) (omega (arith, abs-at-least z, difference-small hub dayTier tier price h p)))
 
 pub downward-small : (terms : Terms) (downward : ℕ) (mec : ℤ) → downward ≤ mostDownward → natAbs mec ≤ mostMarketPrice
-    → natAbs (downwardOf terms downward mec) ≤ 1000000000
+    → natAbs (downwardOf terms downward mec) ≤ mostDownwardAmount
 unfolding downwardOf
 downward-small terms downward mec w m =
     let z = pos downward *ℤ mec in
-    pick 1000000000 (leb downward downwardFloor) _ _ zero-le
-    (round-within 1000000000 (atMostZero z) 100000 (omega arith) (omega (arith, abs-at-most z, abs-mul≤ mostDownward mostMarketPrice (pos downward) mec w m)))
+    pick mostDownwardAmount (leb downward downwardFloor) _ _ zero-le
+    (round-within mostDownwardAmount (atMostZero z) 100000 (omega arith) (omega (arith, abs-at-most z, abs-mul≤ mostDownward mostMarketPrice (pos downward) mec w m)))

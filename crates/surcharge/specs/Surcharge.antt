@@ -37,7 +37,7 @@ abbrev pub quarters : ℕ → ℕ
 quarters tier = cond (eqb tier 2) 5 8
 
 -- "m × (1 + d/100)", in four-hundredths: "the day scaling multiplies m, as the formula has it"
-abbrev pub scaledMultiplier : Terms → (tier : ℕ) → ℕ
+abbrev pub scaledMultiplier : Terms → ℕ → ℕ
 scaledMultiplier terms tier = quarters tier * (100 + terms .days)
 
 -- P, "the greater hub price"

@@ -1,14 +1,14 @@
 use borrow.Author.Needs.{needs}
-use mathlib.Core.Path.{_≡_, ap, ap₂, _∙_}
+use mathlib.Core.Path.{_≡_, ap₂, _∙_}
 use native.Mathlib.Omega.{arith}
 use borrow.Author.Tests.{le-leb, lt-leb}
 use lib.IntN.{pos, _*ℤ_}
 use mir.Syntax.{w64}
-use Rattle.exact.specs.Round.{roundDiv}
 use Rattle.exact.specs.Floor.{atLeastZero}
 use Rattle.exact.proofs.Machine.{within}
 use Rattle.surcharge.specs.Surcharge.{scaledMultiplier, offPeakOf}
 use Rattle.surcharge.proofs.Sizes.{scaled-small}
+use Rattle.surcharge.proofs.Rounded.{rounded-once}
 use Rattle.surcharge.proofs.off_peak.Statement.{statement}
 use Rattle.surcharge.proofs.off_peak.Tie as tie
 
@@ -33,9 +33,7 @@ scaled-requires c κs =
 returns-2 : tie.Need-returns-2
 unfolding offPeakOf
 returns-2 c =
-    c .rounded .ensures
-    ∙ ap (λ z. roundDiv z 40000000)
-    (c .before .at-least-zero .ensures ∙ ap atLeastZero (c .before .before .scaled .ensures ∙ value (c .before .before .before)))
+    rounded-once atLeastZero _ (c .rounded .ensures) (c .before .at-least-zero .ensures) (c .before .before .scaled .ensures ∙ value (c .before .before .before))
     ∙ simp (lt-leb _ _ (c .before .before .before .before .before .if1 .left))
 
 pub off-peak-spec : {M : Type 1} → statement M

@@ -1,14 +1,14 @@
 use borrow.Author.Needs.{needs}
-use mathlib.Core.Path.{_≡_, ap, ap₂, _∙_}
+use mathlib.Core.Path.{_≡_, ap₂, _∙_}
 use native.Mathlib.Omega.{arith}
 use borrow.Author.Tests.{le-leb, lt-leb}
 use lib.IntN.{_-ℤ_}
 use mir.Syntax.{w64}
-use Rattle.exact.specs.Round.{roundDiv}
 use Rattle.exact.specs.Floor.{atLeastZero}
 use Rattle.exact.proofs.Machine.{within}
 use Rattle.surcharge.specs.Surcharge.{surchargeOf, creditOf, onPeakOf}
 use Rattle.surcharge.proofs.Sizes.{difference-small}
+use Rattle.surcharge.proofs.Rounded.{rounded-once}
 use Rattle.surcharge.proofs.on_peak.Statement.{statement}
 use Rattle.surcharge.proofs.on_peak.Tie as tie
 
@@ -40,9 +40,7 @@ minus-requires c κs =
 returns-2 : tie.Need-returns-2
 unfolding onPeakOf
 returns-2 c =
-    c .rounded .ensures
-    ∙ ap (λ z. roundDiv z 400000)
-    (c .before .at-least-zero .ensures ∙ ap atLeastZero (c .before .before .minus .ensures ∙ value (c .before .before .before)))
+    rounded-once atLeastZero _ (c .rounded .ensures) (c .before .at-least-zero .ensures) (c .before .before .minus .ensures ∙ value (c .before .before .before))
     ∙ simp (lt-leb _ _ (c .before .before .before .before .before .if1 .left))
 
 pub on-peak-spec : {M : Type 1} → statement M

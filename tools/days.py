@@ -13,6 +13,7 @@ seed gives the same days on every machine.
 Run as a program it writes one random day to standard output: days.py SEED
 """
 
+import datetime
 import random
 import struct
 import sys
@@ -162,6 +163,16 @@ def with_words(file_bytes, *changes):
     for place, value in changes:
         changed[4 * place : 4 * place + 4] = bytes_of([value])
     return bytes(changed)
+
+
+# Dates
+
+
+def later(date, count):
+    """The day so many days after a date, both as YYYYMMDD; before it for a count below 0."""
+    day = datetime.date(date // 10000, date // 100 % 100, date % 100)
+    day += datetime.timedelta(days=count)
+    return day.year * 10000 + day.month * 100 + day.day
 
 
 # Days to start from

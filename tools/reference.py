@@ -1,14 +1,14 @@
 #!/usr/bin/env python3
-"""The rules of document 01, and of document 02 as far as its requests are taken up (§1, §2), as
+"""The rules of document 01, and of document 02 as far as its requests are taken up (§1, §2, §3), as
 plain functions: the check, the settlement, the price of an hour, the sharing of an amount, the
-lookup, the C call and the program.
+lookup, the C call, the program, the record of failing days and the settlement with it.
 
 It is written to be read beside these documents and to be right, not to be fast. Quantities, prices
 and amounts are exact fractions in MW, dollars a MWh and dollars, and are rounded once, by R. It
 shares no code with the crates, so that an agreement of the two says something.
 
-Run as a program it prints the figures T1 to T12, that of document 02, §2, and Case P, and exits 1
-if one is off.
+Run as a program it prints the figures T1 to T12, that of document 02, §2, what a record counts
+(§3), and Case P, and exits 1 if one is off.
 """
 
 import datetime
@@ -28,6 +28,13 @@ PEAK_WORD = 4194240
 HOURS = 24
 MOST_DEMAND = 100000000
 MOST_SHARED = 10000000000
+
+# The record of document 02, §3: the calendar days that it reaches over, the areas that it holds at
+# most, its words, and the first day that a file can have.
+DAYS_KEPT = 30
+MOST_HELD = 8
+RECORD_WORDS = 2 + 2 * MOST_HELD
+FIRST_DAY = datetime.date(2000, 1, 1)
 
 
 class Refused(Exception):
@@ -80,13 +87,17 @@ def words_of(file_bytes):
     return struct.unpack("<%di" % (len(file_bytes) // 4), file_bytes)
 
 
+def date_of(word):
+    """The day that YYYYMMDD names."""
+    return datetime.date(word // 10000, word // 100 % 100, word % 100)
+
+
 def is_date(word):
     """Trading day as YYYYMMDD, a real Gregorian date, 2000 to 2099."""
-    year, month, day = word // 10000, word // 100 % 100, word % 100
-    if not 2000 <= year <= 2099:
+    if not 2000 <= word // 10000 <= 2099:
         return False
     try:
-        datetime.date(year, month, day)
+        date_of(word)
     except ValueError:
         return False
     return True
@@ -345,27 +356,27 @@ def surcharge(M, P, of_tier, days):
     return max(Fraction(0), M * P * multiplier(of_tier) * (1 + Fraction(days, 100)))
 
 
-def on_peak(area, hour, price):
+def on_peak(area, hour, price, d):
     """R(max(0, S - credit)) in cents, peak hours only; 0 if day tier <= 1."""
     if not hour.peak or day_tier(area) <= 1:
         return 0
     M = highest_deficiency(area)
     # P the greater hub price.
     P = max(hub_dollars(hub) for hub in area.hub_prices)
-    S = surcharge(M, P, day_tier(area), area.days)
+    S = surcharge(M, P, day_tier(area), d)
     # In a peak hour of tier 0 the credit is M × its load-weighted price; elsewhere 0.
     credit = M * market_dollars(price) if hour_tier(hour) == 0 else Fraction(0)
     return cents(max(Fraction(0), S - credit))
 
 
-def off_peak(area, hour, price):
+def off_peak(area, hour, price, d):
     """Other hours: tier 0 and 1 give 0; otherwise R(max(0, U × price × m × (1 + d/100))), rounded
     once (document 02, §2), with the load-weighted price and the hour's own tier."""
     if hour.peak or hour_tier(hour) <= 1:
         return 0
     U = upward_deficiency(hour)
     m = multiplier(hour_tier(hour))
-    return cents(max(Fraction(0), U * market_dollars(price) * m * (1 + Fraction(area.days, 100))))
+    return cents(max(Fraction(0), U * market_dollars(price) * m * (1 + Fraction(d, 100))))
 
 
 def downward(W, mec):
@@ -375,8 +386,8 @@ def downward(W, mec):
     return 0
 
 
-def amounts(area, hour):
-    """On-peak, off-peak and downward amount of an hour, or refusal 16 or 11."""
+def amounts(area, hour, d):
+    """On-peak, off-peak and downward amount of an hour with this d, or refusal 16 or 11."""
     # All amounts of an area with EDAM flag 0 are 0.
     if area.flag == 0:
         return 0, 0, 0
@@ -390,8 +401,8 @@ def amounts(area, hour):
         if price is None:
             raise Refused(11, hour.first_interval)
     return (
-        on_peak(area, hour, price),
-        off_peak(area, hour, price),
+        on_peak(area, hour, price, d),
+        off_peak(area, hour, price, d),
         downward(downward_deficiency(hour), market_dollars(hour.mec)),
     )
 
@@ -428,32 +439,171 @@ def numbers_needed(areas):
     return sum(HOURS * (3 + len(area.coordinators)) for area in areas)
 
 
-def block(area):
+def block(area, d):
     """24 hours of on-peak amount, off-peak amount, downward amount, K charges."""
     numbers = []
     for hour in area.hours:
-        three = amounts(area, hour)
+        three = amounts(area, hour, d)
         numbers += three
         # A = the hour's three amounts added.
         numbers += charges(area, hour, sum(three))
     return numbers
 
 
-def settle(file_bytes, statement):
-    """Number, place and the statement afterwards. A refusal writes nothing; numbers past the
-    needed ones stay."""
-    number, place = check(file_bytes)
-    if number != 0:
-        return number, place, list(statement)
-    areas = areas_of(words_of(file_bytes))
+def settle_areas(areas, days_of, statement):
+    """Number, place and the statement afterwards, for the areas of a file that the check accepts;
+    days_of gives the d of an area. A refusal writes nothing; numbers past the needed ones stay."""
     needed = numbers_needed(areas)
     if len(statement) < needed:
         return 13, needed, list(statement)
     try:
-        settled = [number for area in areas for number in block(area)]
+        settled = [number for area in areas for number in block(area, days_of(area))]
     except Refused as refusal:
         return refusal.number, refusal.place, list(statement)
     return 0, 0, settled + list(statement[needed:])
+
+
+def settle(file_bytes, statement):
+    """Number, place and the statement afterwards, with the file's own d."""
+    number, place = check(file_bytes)
+    if number != 0:
+        return number, place, list(statement)
+    return settle_areas(areas_of(words_of(file_bytes)), lambda area: area.days, statement)
+
+
+# The record of failing days (document 02, §3)
+
+
+def marked(area):
+    """A day marked when any hour, peak or not, was of tier 2 or 3 and the flag was 1."""
+    return area.flag == 1 and any(hour_tier(hour) >= 2 for hour in area.hours)
+
+
+def days_before(day, count):
+    return day - datetime.timedelta(days=count)
+
+
+def thirty_days_to(day):
+    """The thirty calendar days that end with this one."""
+    return {days_before(day, back) for back in range(DAYS_KEPT)}
+
+
+def places_of(record):
+    """The places behind the first two words, of two words each: an area's number and its marks."""
+    return list(zip(record[2::2], record[3::2]))
+
+
+def marked_days(last_day, marks):
+    """Bit i of the marks, i from 0 to 29, is the day i days before the last day entered."""
+    return {days_before(last_day, i) for i in range(DAYS_KEPT) if marks >> i & 1 == 1}
+
+
+def days_of_record(record):
+    """The marked days of each area that a good record holds."""
+    return {
+        number: marked_days(date_of(record[0]), marks)
+        for number, marks in places_of(record)[: record[1]]
+    }
+
+
+def words_of_record(last_day, days_of_area):
+    """The words of a record: the last day entered as YYYYMMDD, the number of areas held, then the
+    places. Areas rise; places that hold no area are 0, 0."""
+    record = [last_day.year * 10000 + last_day.month * 100 + last_day.day, len(days_of_area)]
+    for number in sorted(days_of_area):
+        marks = sum(1 << (last_day - day).days for day in days_of_area[number])
+        record += [number, marks]
+    return record + [0] * (RECORD_WORDS - len(record))
+
+
+def record_is_left(record):
+    """Whether some accepted entries leave this record; the words are read without a sign."""
+    last_day, held = record[:2]
+    # The last day entered is 0 where none was, and then nothing is held.
+    if last_day == 0:
+        return not any(record)
+    # The last day entered is that of an accepted file; 8 areas at most.
+    if not is_date(last_day) or held > MOST_HELD:
+        return False
+    places, unused = places_of(record)[:held], places_of(record)[held:]
+    numbers = [number for number, _ in places]
+    return (
+        # Areas rise, and each has a number that an area can have.
+        all(is_number(number) for number in numbers)
+        and all(before < after for before, after in zip(numbers, numbers[1:]))
+        # The record holds just the areas with a marked day among the thirty.
+        and all(1 <= marks < 1 << DAYS_KEPT for _, marks in places)
+        # A marked day is the day of an accepted file.
+        and all(
+            day >= FIRST_DAY
+            for _, marks in places
+            for day in marked_days(date_of(last_day), marks)
+        )
+        # Places that hold no area are 0, 0.
+        and all(place == (0, 0) for place in unused)
+    )
+
+
+def record_refusal(record, trading_day):
+    """14, a record that no accepted entries leave, right before 18; 18, day not after the last one
+    entered. 0 for neither."""
+    if not record_is_left(record):
+        return 14
+    if record[0] != 0 and trading_day <= date_of(record[0]):
+        return 18
+    return 0
+
+
+def enter(record, file_bytes):
+    """Number, place and the words of the record afterwards. An entry is a day file that the check
+    accepts; every refusal leaves the record as it was."""
+    number, place = check(file_bytes)
+    if number != 0:
+        return number, place, list(record)
+    words = words_of(file_bytes)
+    trading_day = date_of(words[1])
+    number = record_refusal(record, trading_day)
+    if number != 0:
+        return number, 0, list(record)
+
+    days_of_area = days_of_record(record)
+    for area in areas_of(words):
+        if marked(area):
+            days_of_area.setdefault(area.number, set()).add(trading_day)
+    # After an entry the record holds just the areas with a marked day among the thirty that end
+    # with the day entered. Skipped days are unmarked and age the record.
+    kept = {
+        number: days & thirty_days_to(trading_day)
+        for number, days in days_of_area.items()
+        if days & thirty_days_to(trading_day)
+    }
+    # 19, an entry after which more than 8 areas would be held.
+    if len(kept) > MOST_HELD:
+        return 19, 0, list(record)
+    return 0, 0, words_of_record(trading_day, kept)
+
+
+def days_counted(record, area_number, trading_day):
+    """d: the marked days among the thirty before the trading day, consecutive or not."""
+    days = days_of_record(record).get(area_number, set())
+    return len(days & thirty_days_to(days_before(trading_day, 1)))
+
+
+def settle_recorded(record, file_bytes, statement):
+    """Number, place and the statement afterwards. Settlement with the record uses its d and ignores
+    the file's; the record stays as it is."""
+    number, place = check(file_bytes)
+    if number != 0:
+        return number, place, list(statement)
+    words = words_of(file_bytes)
+    trading_day = date_of(words[1])
+    # 14 and 18 after the check's numbers and before 13.
+    number = record_refusal(record, trading_day)
+    if number != 0:
+        return number, 0, list(statement)
+    return settle_areas(
+        areas_of(words), lambda area: days_counted(record, area.number, trading_day), statement
+    )
 
 
 # The other calls
@@ -628,6 +778,35 @@ def off_peak_figures():
     yield "U 40, Q 60, price 25, d 5", (0, 0, 210000), (number, place, statement[4 * 2 + 1])
 
 
+def record_figures():
+    """Document 02, §3: four entries from the empty record, with days skipped between them, and what
+    the record then counts on days further on. Hour ending 3 fails off-peak in tier 3, so that the
+    off-peak amount tells d: $2,000.00 at d 0, as in document 02, §2, and $20.00 more for each day.
+    """
+    import days
+
+    def day_of(date, upward):
+        area = days.quiet_area(number=7, kind=0, load_points=1, coordinators=[12])
+        area.persistent_days = 30
+        hour = area.hours[2]
+        hour.energy_up, hour.requirement, hour.pairs = upward, 60000, [(1000, 250000)] * 12
+        return days.Day(date, PEAK_WORD, [area]).to_bytes()
+
+    record = [0] * RECORD_WORDS
+    # The first, third and fourth are marked; 10 MW is tier 1.
+    upward = {20240228: 40000, 20240229: 10000, 20240301: 10001, 20240303: 40000}
+    for date in upward:
+        number, place, record = enter(record, day_of(date, upward[date]))
+        assert (number, place) == (0, 0)
+    held = [20240303, 1, 7, 0b10101] + [0] * 14
+    yield "the record after 4 entries", held, record
+    # 28 February is the thirtieth day before 29 March, 3 March the thirtieth before 2 April.
+    for date, d in ((20240304, 3), (20240329, 3), (20240330, 2), (20240402, 1), (20240403, 0)):
+        number, place, statement = settle_recorded(record, day_of(date, 40000), [0] * 96)
+        due = (0, 0, 200000 + 2000 * d)
+        yield "d %d on %d" % (d, date), due, (number, place, statement[4 * 2 + 1])
+
+
 def downward_figures():
     """T8 and T9."""
     yield "T8 W 10.000 at -100", 0, downward(Fraction("10.000"), Fraction(-100))
@@ -671,6 +850,7 @@ def main():
         tier_figures,
         on_peak_figures,
         off_peak_figures,
+        record_figures,
         downward_figures,
         call_figures,
     ):

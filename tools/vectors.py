@@ -15,6 +15,11 @@ A case is four little-endian words (call, x, y, payload bytes) and the payload:
     4 share    8 bytes of amount, 8 bytes a row, x lent        number, place, the x charges
     5 lookup   a day file, x the area's number                 length and digest of the part
     6 C call   a day file, x statement bytes lent              coded answer, digest of the x bytes
+    7 enter    a record, a day file                            number, place, the record afterwards
+    8 recorded a record, a day file, x numbers lent            number, place, the x numbers
+
+A record is 18 words, the last day entered, the number of areas held and 8 places of two words; call
+8 settles with it.
 
 The expected lines come from reference.py alone. Each group of cases is one generator function with
 a seed of its own, so that a group added or left out does not move another.
@@ -40,13 +45,16 @@ INPUT = ROOT / "crates" / "vectors" / "stdin"
 EXPECTED = ROOT / "crates" / "vectors" / "stdout"
 
 # The calls that the committed stream holds: those that the vectors program has.
-CALLS = (1, 2, 3, 4, 5, 6)
-ALL_CALLS = (1, 2, 3, 4, 5, 6)
+CALLS = (1, 2, 3, 4, 5, 6, 7, 8)
+ALL_CALLS = (1, 2, 3, 4, 5, 6, 7, 8)
 
-CHECK, SETTLE, PRICE, SHARE, LOOKUP, C_CALL = ALL_CALLS
+CHECK, SETTLE, PRICE, SHARE, LOOKUP, C_CALL, ENTER, RECORDED = ALL_CALLS
 
 # What the vectors program has room for.
 MOST_PAYLOAD = 66000
+
+# The bytes of a record, which stand before the day file in the payload of calls 7 and 8.
+RECORD_BYTES = 4 * reference.RECORD_WORDS
 
 Case = namedtuple("Case", "call x payload")
 
@@ -87,6 +95,12 @@ def share_arguments(payload):
     return amount, list(zip(words[0::2], words[1::2]))
 
 
+def record_arguments(payload):
+    """The words of the record, without a sign, and the day file behind them."""
+    record = struct.unpack("<%dI" % reference.RECORD_WORDS, payload[:RECORD_BYTES])
+    return list(record), payload[RECORD_BYTES:]
+
+
 def answers(case):
     """The numbers of the line that the vectors program prints."""
     call, x, payload = case
@@ -104,6 +118,13 @@ def answers(case):
     if call == LOOKUP:
         part = reference.lookup(payload, x)
         return len(part), digest(part)
+    if call == ENTER:
+        number, place, record = reference.enter(*record_arguments(payload))
+        return [number, place] + record
+    if call == RECORDED:
+        record, file_bytes = record_arguments(payload)
+        number, place, statement = reference.settle_recorded(record, file_bytes, lent_numbers(x))
+        return [number, place] + statement
     coded, after = reference.c_call(payload, lent_bytes(x))
     return coded, digest(after)
 
@@ -1500,6 +1521,513 @@ def c_call_random(rng):
             yield Case(C_CALL, 8 * needed(file_bytes), file_bytes)
 
 
+# Call 7: entering a day in a record
+
+
+def record_of(last_day=0, *places):
+    """The words of a record: the last day entered, then each area held with its marks."""
+    words = [last_day, len(places)] + [word for place in places for word in place]
+    return words + [0] * (reference.RECORD_WORDS - len(words))
+
+
+def bits(*places):
+    """Marks on the days so many days before the last day entered."""
+    return sum(1 << place for place in places)
+
+
+ALL_THIRTY = bits(*range(30))
+EMPTY_RECORD = record_of()
+
+
+def record_payload(record, file_bytes):
+    return days.bytes_of(record) + file_bytes
+
+
+def enter_case(record, day):
+    return Case(ENTER, 0, record_payload(record, day.to_bytes()))
+
+
+def fail(hour, upward=20000, requirement=60000):
+    """A failure of tier 2, unless another is given."""
+    hour.energy_up, hour.requirement = upward, requirement
+
+
+def entered_day(date, failing=(7,), quiet=()):
+    """A day of areas that fail in hour ending 14, which marks the day, and of quiet ones."""
+    numbers = sorted(failing + quiet)
+    day = days.quiet_day([SMALL] * len(numbers), date=date)
+    for area, number in zip(day.areas, numbers):
+        area.number = number
+        if number in failing:
+            fail(area.hours[13])
+    return day
+
+
+def entries(record, entered):
+    """Each day entered in the record that the days before it left."""
+    for day in entered:
+        yield enter_case(record, day)
+        _, _, record = reference.enter(record, day.to_bytes())
+
+
+def enter_sequences(rng):
+    """Entries from the empty record on, each in the record that those before it left, marked and
+    unmarked, over gaps of 1 to 36,524 days."""
+    dates = [20241129]
+    for gap in (1, 2, 29, 1, 30, 31, 59, 60, 365):
+        dates.append(days.later(dates[-1], gap))
+    # The same area fails on each day; three areas by turns; every other day is unmarked.
+    yield from entries(EMPTY_RECORD, [entered_day(date) for date in dates])
+    turns = zip(dates[:5], (7, 9, 5, 9, 7))
+    yield from entries(EMPTY_RECORD, [entered_day(date, (number,)) for date, number in turns])
+    marked, unmarked = ((7,), (9,)), ((), (7,))
+    turns = zip(dates[:4], (marked, unmarked, marked, unmarked))
+    yield from entries(EMPTY_RECORD, [entered_day(date, *areas) for date, areas in turns])
+    # The whole century between two entries.
+    yield from entries(EMPTY_RECORD, [entered_day(date) for date in (20000101, 20991231)])
+
+
+def enter_calendar(rng):
+    """Sequences over the ends of months and years, the ends of February, the first days of 2000 and
+    the last of 2099, with gaps at which a mark just stays and just goes."""
+    for dates in (
+        # The mark of the first day of 2000 stays until 30 January.
+        (20000101, 20000102, 20000130, 20000131),
+        (20000131, 20000229, 20000301),
+        (20000201, 20000302),
+        (20231231, 20240101, 20240229, 20240301, 20240329, 20240330),
+        (20230228, 20230301, 20230329, 20230330),
+        (20240731, 20240801, 20240830),
+        (20251202, 20251231, 20260101),
+        (20991201, 20991230, 20991231),
+    ):
+        yield from entries(EMPTY_RECORD, [entered_day(date) for date in dates])
+
+
+def enter_ageing(rng):
+    """A record of several areas moves on by one day to a hundred years; the area that comes in
+    stands between them, or the day is unmarked. Gaps of 32 and 64 days are no gaps of 0."""
+    last_day = 20240201
+    record = record_of(
+        last_day,
+        (3, bits(0)),
+        (5, bits(29)),
+        (8, ALL_THIRTY),
+        (11, bits(1, 28)),
+        (20, bits(28)),
+        (21, bits(0, 14, 15)),
+    )
+    for gap in (1, 2, 14, 15, 28, 29, 30, 31, 32, 33, 60, 64, 366):
+        yield enter_case(record, entered_day(days.later(last_day, gap)))
+    for gap in (1, 29, 30, 32):
+        yield enter_case(record, entered_day(days.later(last_day, gap), (), (8,)))
+    # An area that the record holds is marked again, alone and with others.
+    for gap, failing in ((1, (8,)), (2, (3, 21)), (29, (5, 8)), (30, (8,))):
+        yield enter_case(record, entered_day(days.later(last_day, gap), failing))
+
+
+def enter_marks(rng):
+    """What marks a day: an hour of tier 2 or 3, peak or not, with flag 1."""
+    record = record_of(20260502, (6, bits(0)), (7, bits(3)))
+    # The first and last hours of the day, of the peak hours and next to them, in tier 2, 3 and 1.
+    for upward, hours in ((20000, (0, 5, 6, 21, 22, 23)), (30001, (0, 6, 23)), (10000, (0, 6, 23))):
+        for hour in hours:
+            day = days.quiet_day([SMALL])
+            fail(day.areas[0].hours[hour], upward)
+            yield enter_case(record, day)
+    # Both sides of 10 MW, 1% of Q and half of Q, and Q 0, without peak hours.
+    for upward, requirement in (
+        (10000, 600000),
+        (10001, 600000),
+        (10000, 0),
+        (10001, 0),
+        (20000, 2000000),
+        (20001, 2000000),
+        (10001, 1000100),
+        (10001, 1000099),
+        (300000, 600000),
+        (300001, 600000),
+    ):
+        day = days.quiet_day([SMALL], peak=0)
+        fail(day.areas[0].hours[9], upward, requirement)
+        yield enter_case(record, day)
+    # The four numbers together, and the downward ones not.
+    for parts in ((2500, 2500, 2500, 2500), (2500, 2501, 2500, 2500), (0, 0, 0, 10001)):
+        day = days.quiet_day([SMALL])
+        day.areas[0].hours[3].set_upward(parts)
+        day.areas[0].hours[3].set_downward((2500000, 2500000))
+        yield enter_case(record, day)
+    # Flag 0 with failures in every hour; tier 1 in every hour; no failure at all.
+    for flag, upward in ((0, 2500000), (1, 10000), (1, 0)):
+        day = days.quiet_day([SMALL])
+        day.areas[0].flag = flag
+        for hour in day.areas[0].hours:
+            fail(hour, upward)
+        yield enter_case(record, day)
+    # Two areas, of which one is marked: by its tier and by its flag.
+    for failing, flags in (((7,), (1, 1)), ((9,), (1, 1)), ((7, 9), (0, 1)), ((7, 9), (1, 0))):
+        quiet = tuple({7, 9} - set(failing))
+        day = entered_day(DATE, failing, quiet)
+        for area, flag in zip(day.areas, flags):
+            area.flag = flag
+        yield enter_case(record, day)
+    # The file's own d does not matter.
+    day = entered_day(DATE)
+    day.areas[0].persistent_days = 30
+    yield enter_case(record, day)
+
+
+def days_that_settling_refuses():
+    """Days that the check accepts and settlement refuses with 16, 11 and 12."""
+    for gap in (one_price_short, without_quantity, dry):
+        day = failing_day([(1, 1, 1)])
+        gap(day.areas[0].hours[23])
+        yield day
+
+
+def enter_unsettled(rng):
+    """Days that settlement would refuse can be entered; so can a day whose missing prices nobody
+    needs."""
+    for day in days_that_settling_refuses():
+        yield enter_case(EMPTY_RECORD, day)
+    day = failing_day([SMALL], PEAK_WORD)
+    for hour in day.areas[0].hours:
+        without_price(hour)
+    yield enter_case(record_of(20260503, (7, bits(29))), day)
+
+
+def full_record(last_day=20260503, **marks_of):
+    """A record of the areas 10, 20, .. 80, each marked on the last day unless other marks are
+    given, as in at_40=bits(29)."""
+    numbers = range(10, 90, 10)
+    places = [(number, marks_of.get("at_%d" % number, bits(0))) for number in numbers]
+    return record_of(last_day, *places)
+
+
+def enter_full(rng):
+    """Refusal 19: a ninth area. It is judged after the ageing, and an area that is held already
+    does not count twice."""
+    # Before, between and behind those held; unmarked areas do not come in.
+    for number in (1, 45, LARGEST_NUMBER):
+        yield enter_case(full_record(), entered_day(DATE, (number,)))
+    yield enter_case(full_record(), entered_day(DATE, (), (45,)))
+    day = entered_day(DATE, (45,))
+    day.areas[0].flag = 0
+    yield enter_case(full_record(), day)
+    # Areas that it holds, and one with another that it does not.
+    for failing in ((10,), (40,), (80,), (40, 41)):
+        yield enter_case(full_record(), entered_day(DATE, failing))
+    # One area's last mark falls out on that day, or a day later, or it has another one.
+    for name, number in (("at_10", 90), ("at_40", 45), ("at_80", 7)):
+        yield enter_case(full_record(**{name: bits(29)}), entered_day(DATE, (number,)))
+    for gap, marks in ((1, bits(28)), (2, bits(28)), (1, bits(1, 29)), (29, 1), (30, 1)):
+        record = full_record(at_40=marks)
+        yield enter_case(record, entered_day(days.later(20260503, gap), (45,)))
+    # The area whose last mark falls out is marked anew.
+    yield enter_case(full_record(at_40=bits(29)), entered_day(DATE, (40, 45)))
+    yield enter_case(full_record(at_40=bits(29)), entered_day(DATE, (40,)))
+    # Several areas come in at once: exactly 8, and one more; with two that go.
+    for held, failing in (
+        (7, (7,)),
+        (7, (7, 9)),
+        (6, (1, LARGEST_NUMBER)),
+        (6, (1, 35, LARGEST_NUMBER)),
+        (6, (1, 30, LARGEST_NUMBER)),
+        (5, (15, 25, 35)),
+    ):
+        places = [(10 * place, bits(0)) for place in range(1, held + 1)]
+        yield enter_case(record_of(20260503, *places), entered_day(DATE, failing))
+    gone = {"at_10": bits(29), "at_80": bits(29)}
+    for failing in ((45, 90), (7, 45, 90), (10, 45)):
+        yield enter_case(full_record(**gone), entered_day(DATE, failing))
+    # Files of eight areas: in the empty record, in one that holds one of them, in one that holds
+    # another, in a full one of others, and in the same when all of its marks fall out.
+    eight = tuple(range(1, 9))
+    for record in (
+        EMPTY_RECORD,
+        record_of(20260503, (8, bits(0))),
+        record_of(20260503, (9, bits(0))),
+        full_record(),
+        full_record(20260404),
+    ):
+        yield enter_case(record, entered_day(DATE, eight))
+
+
+def enter_not_after(rng):
+    """Refusal 18: the same day and days before it, for a record with areas and without."""
+    for last_day, date in (
+        (20260504, 20260504),
+        (20260504, 20260503),
+        (20260504, 20250504),
+        (20260504, 20260505),
+        # A later month or year with an earlier day.
+        (20260601, 20260531),
+        (20270101, 20261231),
+        (20260531, 20260601),
+        (20261231, 20270101),
+        (20240301, 20240229),
+        (20000101, 20000101),
+        (20991231, 20991230),
+        (20991231, 20991231),
+    ):
+        yield enter_case(record_of(last_day, (7, bits(0))), entered_day(date))
+    for last_day in (20260503, 20260504):
+        yield enter_case(record_of(last_day), entered_day(DATE, (), (7,)))
+
+
+def broken_records():
+    """Records on both sides of each rule of their words (14), each with the day to be entered."""
+
+    def changed(record, *changes):
+        words = list(record)
+        for place, value in changes:
+            words[place] = value
+        return words
+
+    base = record_of(20260503, (5, bits(0, 2)), (9, bits(29)))
+    full = full_record()
+    records = []
+    # Word 0: no such date, and 0 with something held or in an unused place.
+    for date in (0, 20230229, 20240229, 20000230, 19991231, 21000101, 20261301, 99999999):
+        records.append(changed(base, (0, date)))
+    for date in (20260503 + (1 << 31), 4294967295):
+        records.append(changed(base, (0, date)))
+    for change in ((1, 1), (2, 5), (17, 1)):
+        records.append(changed(EMPTY_RECORD, change))
+    records.append(changed(record_of(20260503, (5, 1)), (0, 0)))
+    # Word 1: more than 8, or not the places that are filled.
+    for held in (1, 3, 8, 9, 4294967295):
+        records.append(changed(base, (1, held)))
+    for held in (0, 7, 9, 8 + (1 << 31)):
+        records.append(changed(full, (1, held)))
+    records.append(changed(record_of(20260503), (1, 1)))
+    # Numbers: 1 to 2,147,483,647, strictly rising.
+    for number in (0, 1, 8, 9, 10, 2147483648, 4294967295):
+        records.append(changed(base, (2, number)))
+    for number in (4, 5, 6, LARGEST_NUMBER, 2147483648, 4294967295):
+        records.append(changed(base, (4, number)))
+    for place in (6, 10, 16):
+        records.append(changed(full, (place, full[place - 2])))
+    records.append(changed(full, (16, 1)))
+    records.append(changed(full, (16, 2147483648)))
+    # Marks: 1 to 2^30 - 1.
+    for marks in (0, 1, ALL_THIRTY, 1 << 30, 4294967295):
+        records.append(changed(base, (3, marks)))
+    for marks in (0, 1 + (1 << 30), 1 + (1 << 31)):
+        records.append(changed(base, (5, marks)))
+    for place, marks in ((7, 0), (11, 1 << 30), (17, ALL_THIRTY), (17, 1 << 30), (17, 0)):
+        records.append(changed(full, (place, marks)))
+    # Unused places.
+    for place in range(6, 18):
+        records.append(changed(base, (place, 1)))
+    records.append(changed(base, (16, 10), (17, 1)))
+    records.append(changed(base, (17, 1 << 31)))
+    for record in records:
+        yield DATE, record
+    # No file can have a day before the first of 2000.
+    for last_day, places in (
+        (20000101, [bits(0)]),
+        (20000101, [bits(1)]),
+        (20000105, [bits(4)]),
+        (20000105, [bits(5)]),
+        (20000105, [bits(0, 29)]),
+        (20000105, [bits(0, 1, 2, 3, 4), bits(5)]),
+        (20000129, [bits(28)]),
+        (20000129, [bits(29)]),
+        (20000130, [bits(29)]),
+        (20000131, [ALL_THIRTY]),
+    ):
+        held = [(5 + place, marks) for place, marks in enumerate(places)]
+        yield days.later(last_day, 1), record_of(last_day, *held)
+
+
+def enter_broken_records(rng):
+    """Refusal 14 for each word of a record, and what is next to it and good."""
+    for date, record in broken_records():
+        yield enter_case(record, entered_day(date))
+
+
+def enter_order(rng):
+    """The check's numbers before 14, 14 before 18 and 19, 18 before 19."""
+    broken = record_of(20260504, (7, 0))
+    for file_bytes in refused_files(rng):
+        yield Case(ENTER, 0, record_payload(broken, file_bytes))
+    # With a good record, which stays as it was, and for the longest files.
+    good = record_of(20260501, (7, bits(0, 29)), (8, bits(1)))
+    day = entered_day(DATE)
+    small = day.to_bytes()
+    for file_bytes in (
+        b"",
+        small[:-1],
+        small + bytes(65540 - len(small)),
+        with_words(small, (1, 20250229)),
+        with_words(small, (day.head_place(0, "persistent_days"), 31)),
+        with_words(small, (day.demand_place(0, 23, 0), -1)),
+    ):
+        yield Case(ENTER, 0, record_payload(good, file_bytes))
+    ninth = entered_day(DATE, (45,))
+    yield enter_case(record_of(DATE, (7, 0)), day)
+    yield enter_case(record_of(20270101, (7, 1 << 30)), day)
+    yield enter_case(full_record(at_80=1 << 30), ninth)
+    for last_day in (DATE, 20260505, 20991231):
+        yield enter_case(full_record(last_day), ninth)
+    yield enter_case(full_record(DATE, at_10=0), ninth)
+    # The largest file that is accepted.
+    shapes = [(0, 2, 1)] * 3 + [(1, 2, 64)] + [(0, 2, 1)] * 4
+    largest = filled_day(rng, *shapes)
+    yield enter_case(record_of(days.later(largest.date, -3)), largest)
+
+
+def enter_random(rng):
+    """Random days in records that hold some of their areas."""
+    for _ in range(16):
+        day = small_day(rng)
+        yield enter_case(random_record(rng, day.date, [area.number for area in day.areas]), day)
+
+
+# Call 8: settling with a record
+
+
+def recorded_case(record, day, lent=None):
+    lent = day.numbers_needed() if lent is None else lent
+    return Case(RECORDED, lent, record_payload(record, day.to_bytes()))
+
+
+def counting_day(date, *numbers, persistent_days=17):
+    """A day whose areas have 100 MW off-peak at $100.00 in tier 3, one hour each: the amount is
+    $20,000.00 and $200.00 for each day of d. The file's own d is another."""
+    day = days.quiet_day([SMALL] * len(numbers), peak=0, date=date, pair=(1000, 1000000))
+    for hour, (area, number) in enumerate(zip(day.areas, numbers)):
+        area.number, area.persistent_days = number, persistent_days
+        fail(area.hours[11 * hour], 100000, 100000)
+    return day
+
+
+def recorded_days_counted(rng):
+    """d over the days between: of the last day entered g days before, bits 0 to 30 - g count. An
+    area has the last bit that counts, one the first that does not, one has all."""
+    last_day = 20240201
+    for gap in (1, 2, 16, 28, 29, 30, 31, 32, 64):
+        last_counted = bits(max(0, 30 - gap))
+        first_not = bits(min(29, max(0, 31 - gap)))
+        record = record_of(last_day, (5, last_counted), (7, first_not), (9, ALL_THIRTY))
+        yield recorded_case(record, counting_day(days.later(last_day, gap), 5, 7, 9))
+    # Consecutive or not, over the end of a year, and next to the first and last days.
+    for last_day, gap, marks in (
+        (20251231, 1, bits(0, 1, 3)),
+        (20251220, 12, bits(17, 18, 19, 20)),
+        (20260503, 1, 0x15555555),
+        (20240229, 30, bits(0, 1)),
+        (20230228, 31, bits(0, 1)),
+        (20000101, 1, bits(0)),
+        (20000130, 1, ALL_THIRTY),
+        (20991230, 1, ALL_THIRTY),
+    ):
+        day = counting_day(days.later(last_day, gap), 7)
+        yield recorded_case(record_of(last_day, (7, marks)), day)
+    # A hundred years later.
+    record = record_of(20000101, (7, bits(0)))
+    yield recorded_case(record, counting_day(20991231, 7))
+
+
+def recorded_amounts(rng):
+    """On-peak amounts, T6 and T7 with d 3 of the record, other d, and shares of two coordinators;
+    the file's own d is ignored."""
+    for persistent_days, marks in ((30, bits(0, 4, 9)), (3, ALL_THIRTY), (3, bits(29))):
+        record = record_of(20260503, (7, marks))
+        yield recorded_case(record, on_peak_day(persistent_days=persistent_days))
+    record = record_of(20260502, (7, bits(0, 29)))
+    yield recorded_case(record, on_peak_day(failing=300001))
+    day = days.quiet_day([(1, 1, 2)], peak=0)
+    day.areas[0].persistent_days = 30
+    fail(day.areas[0].hours[4], 12345, 20000)
+    day.areas[0].hours[4].demands = [2, 1]
+    day.areas[0].hours[5].energy_down, day.areas[0].hours[5].mec = 12500, -100
+    yield recorded_case(record_of(20260503, (7, bits(0, 1, 2, 9, 29))), day)
+    # Flag 0: no amount with any d.
+    day.areas[0].flag = 0
+    yield recorded_case(record_of(20260503, (7, ALL_THIRTY)), day)
+
+
+def recorded_areas(rng):
+    """Areas that the record holds and others, which settle with d 0 though the file says 30."""
+    for record in (
+        EMPTY_RECORD,
+        record_of(20260503),
+        record_of(20260503, (6, ALL_THIRTY), (8, ALL_THIRTY)),
+    ):
+        yield recorded_case(record, counting_day(DATE, 7, persistent_days=30))
+    # The first, a middle and the last of eight; the ends of the numbers.
+    record = full_record(at_10=bits(0, 1), at_40=bits(0, 1, 2, 3), at_80=bits(29))
+    for numbers in ((10,), (80,), (10, 45, 80), (9, 40)):
+        yield recorded_case(record, counting_day(DATE, *numbers, persistent_days=30))
+    record = record_of(20260503, (1, bits(0, 5)), (LARGEST_NUMBER, bits(1, 3, 7)))
+    yield recorded_case(record, counting_day(DATE, 1, 2, LARGEST_NUMBER))
+    # The same areas, in the record that an entry of the day before leaves.
+    _, _, record = reference.enter(record, counting_day(20260510, 2).to_bytes())
+    yield recorded_case(record, counting_day(20260511, 1, 2, LARGEST_NUMBER))
+
+
+def recorded_rooms(rng):
+    """Room for the numbers needed, more, and too little: 13, also before 16, 11 and 12."""
+    record = record_of(20260503, (7, bits(2)))
+    day = counting_day(DATE, 7)
+    for lent in (99, 95, 0):
+        yield recorded_case(record, day, lent)
+    yield recorded_case(record, counting_day(DATE, 7, 8), 3)
+    for day in days_that_settling_refuses():
+        yield recorded_case(record, day, 2)
+    # The largest file that is accepted.
+    shapes = [(0, 2, 1)] * 7 + [(1, 2, 64)]
+    largest = filled_day(rng, *shapes)
+    yield recorded_case(record_of(days.later(largest.date, -1)), largest, 0)
+
+
+def recorded_refused(rng):
+    """16, 11 and 12, which leave the statement as it was."""
+    for day in days_that_settling_refuses():
+        yield recorded_case(record_of(20260503, (7, bits(2))), day)
+
+
+def recorded_order(rng):
+    """The check's numbers before 14, 14 before 18, 18 before 13 and the hours."""
+    broken = record_of(20260504, (7, 0))
+    for file_bytes in list(refused_files(rng))[::2]:
+        yield Case(RECORDED, 2, record_payload(broken, file_bytes))
+    # The file's own d is ignored, but checked.
+    day = counting_day(DATE, 7)
+    place = day.head_place(0, "persistent_days")
+    good = record_of(20260503, (7, bits(2)))
+    for record, persistent_days in ((good, 31), (good, -1), (broken, 31)):
+        file_bytes = with_words(day.to_bytes(), (place, persistent_days))
+        yield Case(RECORDED, 1, record_payload(record, file_bytes))
+    for last_day, lent in ((DATE, 0), (DATE, 2), (20260503, 0), (20270101, 2)):
+        yield recorded_case(record_of(last_day, (7, 0)), day, lent)
+    for last_day, lent in ((DATE, 0), (DATE, 2), (20260505, 0), (20270504, 2), (20991231, 2)):
+        yield recorded_case(record_of(last_day, (7, bits(0))), day, lent)
+    yield recorded_case(record_of(DATE), day)
+    for gap_day in days_that_settling_refuses():
+        yield recorded_case(record_of(DATE), gap_day, 3)
+
+
+def recorded_broken_records(rng):
+    """Refusal 14: every third of the records that are refused in enter_broken_records."""
+    refused = [
+        (date, record) for date, record in broken_records() if not reference.record_is_left(record)
+    ]
+    for date, record in refused[::3]:
+        yield recorded_case(record, counting_day(date, 7), 1)
+
+
+def recorded_random(rng):
+    """Random days of one area, with records that mostly hold it."""
+    for _ in range(8):
+        day = days.random_day_of(rng, [SMALL], gaps=False)
+        numbers = [area.number for area in day.areas]
+        yield recorded_case(random_record(rng, day.date, numbers), day)
+
+
+
 # All groups in the stream's order, each with the call that it makes
 
 GROUPS = (
@@ -1556,6 +2084,24 @@ GROUPS = (
     (C_CALL, c_call_order_of_hours),
     (C_CALL, c_call_off_peak_scaling),
     (C_CALL, c_call_random),
+    (ENTER, enter_sequences),
+    (ENTER, enter_calendar),
+    (ENTER, enter_ageing),
+    (ENTER, enter_marks),
+    (ENTER, enter_unsettled),
+    (ENTER, enter_full),
+    (ENTER, enter_not_after),
+    (ENTER, enter_broken_records),
+    (ENTER, enter_order),
+    (ENTER, enter_random),
+    (RECORDED, recorded_days_counted),
+    (RECORDED, recorded_amounts),
+    (RECORDED, recorded_areas),
+    (RECORDED, recorded_rooms),
+    (RECORDED, recorded_refused),
+    (RECORDED, recorded_order),
+    (RECORDED, recorded_broken_records),
+    (RECORDED, recorded_random),
 )
 
 
@@ -1614,7 +2160,61 @@ def random_lookup_case(rng):
     return Case(LOOKUP, number, file_bytes)
 
 
+def random_marks(rng, last_day):
+    """Marks that an area can have: none is on a day before the first of 2000."""
+    since = (reference.date_of(last_day) - reference.FIRST_DAY).days
+    reach = min(30, since + 1)
+    every = bits(*range(reach))
+    some = (1 << rng.randrange(reach), between(rng, 1, every))
+    return rng.choice((bits(0), bits(reach - 1), every) + some)
+
+
+def random_record(rng, date, numbers):
+    """A record whose last day is mostly some days before the date, and which holds some of these
+    areas and others; few have a word that is broken."""
+    any_gap = rng.choice((between(rng, 1, 35), between(rng, 1, 999), 0, -1, between(rng, -400, 0)))
+    gap = rng.choice((1, 1, 1, 1, 2, 3, 28, 29, 30, 31, 32, any_gap, any_gap))
+    last_day = days.later(date, -gap)
+    if not reference.is_date(last_day) or chance(rng, 5):
+        return EMPTY_RECORD
+    held = set()
+    count = rng.choice((0, 1, 1, 2, 3, 7, 8, 8, between(rng, 0, 8)))
+    highest = rng.choice((10, 3000, LARGEST_NUMBER))
+    of_these = rng.choice((0, 10, 50))
+    while len(held) < count:
+        held.add(rng.choice(numbers) if chance(rng, of_these) else between(rng, 1, highest))
+    places = [(number, random_marks(rng, last_day)) for number in sorted(held)]
+    record = record_of(last_day, *places)
+    if chance(rng, 10):
+        place = rng.randrange(len(record))
+        record[place] = damaged_word(rng, record[place])
+    return record
+
+
+def random_record_case(rng, call):
+    """A random file with a record of its areas; in a quarter of the cases the record is what an
+    entry of another file left, and the file is some days later."""
+    file_bytes = random_file(rng)
+    words = reference.words_of(file_bytes[: len(file_bytes) // 4 * 4])
+    date = words[1] if len(words) > 1 and reference.is_date(words[1]) else DATE
+    areas = words[2] if len(words) > 2 and 1 <= words[2] <= 8 else 1
+    numbers = [number for number in words[4 : 4 + 3 * areas : 3] if reference.is_number(number)]
+    record = random_record(rng, date, numbers or [7])
+    if chance(rng, 25) and len(words) > 1:
+        before = small_day(rng)
+        before.date = date
+        record, _ = record_arguments(record_payload(record, b""))
+        _, _, record = reference.enter(record, before.to_bytes())
+        moved = days.later(date, rng.choice((1, 1, 2, 29, 30, 31, between(rng, 0, 60))))
+        file_bytes = with_words(file_bytes, (1, moved))
+    room = random_room(rng, file_bytes) if call == RECORDED else 0
+    return Case(call, room, record_payload(record, file_bytes))
+
+
+
 def random_case(rng, call):
+    if call in (ENTER, RECORDED):
+        return random_record_case(rng, call)
     if call == PRICE:
         return random_price_case(rng)
     if call == SHARE:

@@ -20,9 +20,9 @@ ghost use Rattle.amounts.specs.Amounts.{priceIf, usableRule, priceRule};
 ghost use Rattle.amounts.specs.Ranges.{HourRanged, PairsRanged, AtHour, AmountsRanged};
 
 // U and the tier of an hour.
-struct Hour {
-    upward: Quantity,
-    tier: u32,
+pub struct Hour {
+    pub upward: Quantity,
+    pub tier: u32,
 }
 
 // The three amounts of an hour.
@@ -54,7 +54,7 @@ fn downward_quantity(body: &[u8], at: usize) -> Quantity
 }
 
 // U and the tier of the hour that starts at word `at`, where it counts.
-fn hour_facts(counts: bool, body: &[u8], at: usize) -> Hour
+pub fn hour_facts(counts: bool, body: &[u8], at: usize) -> Hour
     requires { ⌜ HourRanged (now body) at ⌝ }
     ensures { λ r. ⌜ r ≡ hourFacts counts (now (body .entry)) at ⌝ }
 {

@@ -5,7 +5,7 @@ use mathlib.Core.Path.{_≡_, refl}
 use native.Mathlib.Omega.{arith}
 use borrow.Author.Tests.{leb-true, le-leb}
 use Rattle.limits.specs.declared.Limits.{Limits}
-use Rattle.limits.specs.Editions.{mostAreas, mostBytes, editionOne, limitsOf, bytesAllowed, WithinBytes, Plain}
+use Rattle.limits.specs.Editions.{mostAreas, mostHeld, mostBytes, editionOne, widestEdition, limitsOf, KnownEdition, bytesAllowed, WithinBytes, Plain, RoomFor}
 
 pub plain : (edition : ℕ) → Plain (limitsOf edition)
 unfolding limitsOf editionOne
@@ -18,6 +18,14 @@ areas-most edition = omega arith
 pub bytes-most : (edition : ℕ) → (limitsOf edition .bounded ≡ true) × (limitsOf edition .bytes ≤ mostBytes)
 unfolding limitsOf editionOne
 bytes-most edition = (refl, omega arith)
+
+-- the widest edition has room for every area that a record holds
+pub widest-known : KnownEdition widestEdition
+widest-known = refl
+
+pub widest-room : RoomFor mostHeld (limitsOf widestEdition)
+unfolding limitsOf editionOne
+widest-room = record { areas = omega arith; points = omega arith; words = omega arith; bytes = λ b. omega arith }
 
 -- the test of the bytes, and what it says
 module _ (limits : Limits) (bytes : ℕ) where

@@ -1,14 +1,18 @@
 -- The bounds of each edition of the day file, and of a file by its first word.
-use Prim.Native.Nat.{ℕ, _≤_}
+use Prim.Native.Nat.{ℕ, _+_, _*_, _≤_}
 use mathlib.Core.Bool.{Bool, true, not, _||_}
 use mathlib.Core.Path.{_≡_}
 use lib.Dec.{eqb, leb}
 use Rattle.limits.specs.declared.Limits.{Limits}
-use Rattle.limits.specs.Ranges.{plainAreas, plainPoints, plainWords}
+use Rattle.limits.specs.Ranges.{plainAreas, plainPoints, plainWords, leastBodyWords}
 
 -- the most areas, the most load points and, of those that bound them, the most bytes over all editions
 abbrev pub mostAreas : ℕ
 mostAreas = 8
+
+-- "the record holds .. 8 at most": as many areas as a file may have
+abbrev pub mostHeld : ℕ
+mostHeld = mostAreas
 
 abbrev pub mostPoints : ℕ
 mostPoints = 2
@@ -25,6 +29,10 @@ editionKnown edition = eqb edition 1
 
 abbrev pub KnownEdition : ℕ → Type 0
 KnownEdition edition = edition ≡ 1
+
+-- the edition whose files may have the most areas
+abbrev pub widestEdition : ℕ
+widestEdition = 1
 
 -- the limits of a file by its first word: edition 1 is the only one
 unfoldable pub limitsOf : ℕ → Limits
@@ -44,3 +52,12 @@ pub record Plain (limits : Limits) : Type 0 where
   pub areas : limits .areas ≤ plainAreas
   pub points : limits .points ≤ plainPoints
   pub words : limits .words ≤ plainWords
+
+-- ---- a file that marks every area that a record holds
+
+-- a file may have so many areas, each of them of the smallest body
+pub record RoomFor (n : ℕ) (limits : Limits) : Type 0 where
+  pub areas : n ≤ limits .areas
+  pub points : 1 ≤ limits .points
+  pub words : leastBodyWords ≤ limits .words
+  pub bytes : WithinBytes limits (4 * (4 + (3 + leastBodyWords) * n))

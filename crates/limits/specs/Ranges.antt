@@ -37,6 +37,10 @@ mostHubPrice = 200000
 abbrev pub mostDays : ℕ
 mostDays = 30
 
+-- "the preceding thirty calendar days"
+abbrev pub recordedDays : ℕ
+recordedDays = 30
+
 -- "1 to 2,147,483,647", of area numbers and of coordinator numbers
 abbrev pub largestNumber : ℕ
 largestNumber = 2147483647

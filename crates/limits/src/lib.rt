@@ -22,6 +22,8 @@ pub const MOST_DEMAND: u32 = 100000000;
 pub const MOST_HUB_PRICE: u32 = 200000;
 
 pub const MOST_DAYS: u32 = 30;
+// of the record of failing days
+pub const RECORDED_DAYS: u32 = 30;
 // of an area and of a coordinator
 pub const LARGEST_NUMBER: u32 = 2147483647;
 
@@ -46,6 +48,8 @@ pub const PLAIN_AREAS: usize = 32;
 
 // over all editions
 pub const MOST_AREAS: usize = 8;
+// by the record of failing days
+pub const MOST_HELD: usize = MOST_AREAS;
 
 pub const MOST_POINTS: usize = 2;
 

@@ -173,7 +173,7 @@ fn file_days(file: &[u8], n: usize) -> [u32; limits::PLAIN_AREAS]
 }
 
 // Past the check: 13, then areas and hours in order, and where nothing is refused the statement. `days` has a d for each area.
-fn settle_accepted(days: &[u32], file: &[u8], statement: &mut [i64]) -> Verdict
+pub fn settle_accepted(days: &[u32], file: &[u8], statement: &mut [i64]) -> Verdict
     requires { ⌜ Settleable (now days) (now file) ⌝ }
     ensures { λ r. ⌜ r ≡ acceptedRule (listed (now (days .entry))) (now (file .entry)) (length (now (statement .entry))) ⌝ }
     ensures { λ r. ⌜ now (statement .exit) ≡ afterWith (listed (now (days .entry))) (now (file .entry)) r (now (statement .entry)) ⌝ }

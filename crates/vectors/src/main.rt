@@ -1,6 +1,8 @@
 // Runs the library's public calls on a stream of cases from standard input, and prints a line for each.
 // A case is four words (the call, x, y, the number of payload bytes) and its payload; the stream ends where no whole case follows.
 use libc::STDIN_FILENO;
+use record_words::RECORD_WORDS;
+use recording::Record;
 use sharing::ROWS_BY_VALUE;
 use sharing::Row;
 use verdict::Verdict;
@@ -8,6 +10,7 @@ ghost use mathlib.Core.Path.{_≡_};
 ghost use Prim.Native.Nat.{_+_, _*_, _≤_, _<_, _^_};
 ghost use lib.ListN.{length};
 ghost use Rattle.sharing.specs.Rows.{rowsByValue};
+ghost use Rattle.record_words.specs.Words.{recordWords};
 
 // Room for a payload: more than the longest file that is not refused for its length.
 fn payload_room() -> [u8; 66000]
@@ -195,6 +198,66 @@ fn c_call(file: &[u8], x: usize) -> bool {
     true
 }
 
+// The words of the record that stand before the day file.
+fn record_of(payload: &[u8]) -> Record
+    requires { ⌜ 4 * recordWords ≤ length (now payload) ⌝ }
+{
+    let mut numbers = [0u32; RECORD_WORDS];
+    let mut i: usize = 0;
+    while i < RECORD_WORDS {
+        numbers[i] = words::word(payload, i);
+        i += 1;
+    }
+    record_words::record_of(numbers)
+}
+
+fn show_record(given: Record) {
+    let numbers = record_words::words_of(given);
+    let mut i: usize = 0;
+    while i < RECORD_WORDS {
+        show::space();
+        show::unsigned(numbers[i] as u64);
+        i += 1;
+    }
+    show::end();
+}
+
+fn enter(payload: &[u8]) -> bool {
+    if payload.len() < 4 * RECORD_WORDS {
+        return bad_case();
+    }
+    let given = record_of(payload);
+    let file = &payload[4 * RECORD_WORDS..];
+    let entered = entering::enter(given, file);
+    let answer = entered.answer;
+    show_verdict(answer);
+    let after = entered.after;
+    show_record(after);
+    true
+}
+
+fn settle_recorded_into(given: Record, file: &[u8], statement: &mut [i64])
+    requires { ⌜ length (now statement) ≤ 8192 ⌝ }
+{
+    fill_lent(statement);
+    show_verdict(recorded::settle_recorded(given, file, statement));
+    show::numbers(statement);
+}
+
+fn settle_recorded(payload: &[u8], x: usize) -> bool {
+    if payload.len() < 4 * RECORD_WORDS {
+        return bad_case();
+    }
+    if 8192 < x {
+        return bad_case();
+    }
+    let given = record_of(payload);
+    let file = &payload[4 * RECORD_WORDS..];
+    let mut room = statement_room();
+    settle_recorded_into(given, file, &mut room[..x]);
+    true
+}
+
 fn call(number: u32, x: u32, payload: &[u8]) -> bool {
     if number == 1 {
         check(payload);
@@ -216,6 +279,12 @@ fn call(number: u32, x: u32, payload: &[u8]) -> bool {
     }
     if number == 6 {
         return c_call(payload, x as usize);
+    }
+    if number == 7 {
+        return enter(payload);
+    }
+    if number == 8 {
+        return settle_recorded(payload, x as usize);
     }
     bad_case()
 }

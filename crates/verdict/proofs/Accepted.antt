@@ -4,7 +4,8 @@ use native.Mathlib.Omega.{arith}
 use Rattle.verdict.specs.declared.Verdict.{Verdict}
 use Rattle.verdict.specs.declared.Verdict.the-variants.{Accepted, BadLength, BadEdition, BadAreaCount, BadDate, BadPeakHours, BadContents}
 use Rattle.verdict.specs.declared.Verdict.the-variants.{BadBodyHead, BadCoordinator, OutOfRange, RunningDemandTooLarge, PriceWithoutQuantity}
-use Rattle.verdict.specs.declared.Verdict.the-variants.{AmountWithoutDemand, RoomTooShort, AmountBeyondRange, TooFewIntervals}
+use Rattle.verdict.specs.declared.Verdict.the-variants.{AmountWithoutDemand, RoomTooShort, BadRecord, AmountBeyondRange, TooFewIntervals}
+use Rattle.verdict.specs.declared.Verdict.the-variants.{DayNotAfter, TooManyAreas}
 use Rattle.verdict.specs.Verdict.{numberOf, placeOf}
 
 pub accepted-place : (verdict : Verdict) → numberOf verdict ≡ 0 → placeOf verdict ≡ 0
@@ -22,5 +23,8 @@ accepted-place (RunningDemandTooLarge place) z = absurd (omega arith)
 accepted-place (PriceWithoutQuantity place) z = absurd (omega arith)
 accepted-place (AmountWithoutDemand place) z = absurd (omega arith)
 accepted-place (RoomTooShort needed) z = absurd (omega arith)
+accepted-place BadRecord z = refl
 accepted-place AmountBeyondRange z = refl
 accepted-place (TooFewIntervals place) z = absurd (omega arith)
+accepted-place DayNotAfter z = refl
+accepted-place TooManyAreas z = refl

@@ -9,7 +9,7 @@ use lib.Dec.{eqb}
 use borrow.Author.Tests.{eq-eqb, ne-eqb, eqb-true, eqb-false}
 use Rattle.verdict.specs.declared.Verdict.{Verdict}
 use Rattle.verdict.specs.declared.Verdict.the-variants.{Accepted}
-use Rattle.verdict.specs.Verdict.{numberOf, placeOf}
+use Rattle.verdict.specs.Verdict.{numberOf}
 use Rattle.verdict.specs.First.{rule_else_then_, _orElse_, scan}
 
 -- ---- what an acceptance tells
@@ -25,11 +25,11 @@ both true b h = (refl, h)
 both false b h = (h, cc)
 
 module _ (first second : Verdict) where
-  or-next : numberOf first ≡ 0 → (first orElse second) ≡ second
+  pub or-next : numberOf first ≡ 0 → (first orElse second) ≡ second
   unfolding _orElse_
   or-next h = simp (eq-eqb _ _ h)
 
-  or-stop : (numberOf first ≡ 0 → ⊥) → (first orElse second) ≡ first
+  pub or-stop : (numberOf first ≡ 0 → ⊥) → (first orElse second) ≡ first
   unfolding _orElse_
   or-stop h = simp (ne-eqb _ _ h)
 

@@ -3,7 +3,8 @@ use Prim.Native.Nat.{ℕ}
 use Rattle.verdict.specs.declared.Verdict.{Verdict}
 use Rattle.verdict.specs.declared.Verdict.the-variants.{Accepted, BadLength, BadEdition, BadAreaCount, BadDate, BadPeakHours, BadContents}
 use Rattle.verdict.specs.declared.Verdict.the-variants.{BadBodyHead, BadCoordinator, OutOfRange, RunningDemandTooLarge, PriceWithoutQuantity}
-use Rattle.verdict.specs.declared.Verdict.the-variants.{AmountWithoutDemand, RoomTooShort, AmountBeyondRange, TooFewIntervals}
+use Rattle.verdict.specs.declared.Verdict.the-variants.{AmountWithoutDemand, RoomTooShort, BadRecord, AmountBeyondRange, TooFewIntervals}
+use Rattle.verdict.specs.declared.Verdict.the-variants.{DayNotAfter, TooManyAreas}
 
 abbrev pub numberOf : Verdict → ℕ
 numberOf Accepted = 0
@@ -20,8 +21,11 @@ numberOf (RunningDemandTooLarge place) = 10
 numberOf (PriceWithoutQuantity place) = 11
 numberOf (AmountWithoutDemand place) = 12
 numberOf (RoomTooShort needed) = 13
+numberOf BadRecord = 14
 numberOf AmountBeyondRange = 15
 numberOf (TooFewIntervals place) = 16
+numberOf DayNotAfter = 18
+numberOf TooManyAreas = 19
 
 abbrev pub placeOf : Verdict → ℕ
 placeOf Accepted = 0
@@ -38,5 +42,8 @@ placeOf (RunningDemandTooLarge place) = place
 placeOf (PriceWithoutQuantity place) = place
 placeOf (AmountWithoutDemand place) = place
 placeOf (RoomTooShort needed) = needed
+placeOf BadRecord = 0
 placeOf AmountBeyondRange = 0
 placeOf (TooFewIntervals place) = place
+placeOf DayNotAfter = 0
+placeOf TooManyAreas = 0

@@ -18,8 +18,11 @@ pub enum Verdict {
     PriceWithoutQuantity { place: usize },
     AmountWithoutDemand { place: usize },
     RoomTooShort { needed: usize },
+    BadRecord,
     AmountBeyondRange,
     TooFewIntervals { place: usize },
+    DayNotAfter,
+    TooManyAreas,
 }
 
 // The number of the refusal (docs/RULES.md, section 10); 0 where nothing is refused.
@@ -41,8 +44,11 @@ pub fn number(verdict: Verdict) -> u32
         Verdict::PriceWithoutQuantity { place: _ } => 11,
         Verdict::AmountWithoutDemand { place: _ } => 12,
         Verdict::RoomTooShort { needed: _ } => 13,
+        Verdict::BadRecord => 14,
         Verdict::AmountBeyondRange => 15,
         Verdict::TooFewIntervals { place: _ } => 16,
+        Verdict::DayNotAfter => 18,
+        Verdict::TooManyAreas => 19,
     }
 }
 
@@ -65,7 +71,10 @@ pub fn place(verdict: Verdict) -> usize
         Verdict::PriceWithoutQuantity { place } => place,
         Verdict::AmountWithoutDemand { place } => place,
         Verdict::RoomTooShort { needed } => needed,
+        Verdict::BadRecord => 0,
         Verdict::AmountBeyondRange => 0,
         Verdict::TooFewIntervals { place } => place,
+        Verdict::DayNotAfter => 0,
+        Verdict::TooManyAreas => 0,
     }
 }

@@ -1,0 +1,3 @@
+pub mod MadeBody
+pub mod MadeFile
+pub mod MadeMarks

@@ -1,0 +1,10 @@
+pub mod EntriesLaws
+pub mod Determined
+pub mod LeftByEntries
+pub mod Passed
+pub mod FilesLeave
+pub mod LeftByFiles
+pub mod RecordExactly
+pub mod EntriesSay
+pub mod DaysCounted
+pub mod WithRecord

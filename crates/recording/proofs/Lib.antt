@@ -1,0 +1,4 @@
+pub mod Lists
+pub mod AreaMarks
+pub mod InPlace
+pub mod AllMarked

@@ -22,14 +22,10 @@ use Rattle.recording.proofs.InPlace.{entries-of}
 use Rattle.recording.proofs.AllMarked.{pick-second}
 use Rattle.dayfile.specs.Check.{checkOf}
 use Rattle.record_check.specs.Left.{recordRule, daysBetween}
-use Rattle.entering.specs.declared.Entered.{Entered}
-use Rattle.entering.specs.Enter.{heldThen, roomRule, enterOf, recordAfter, answeredBy, entered}
-
-abbrev answer : Verdict → Record → Entered
-answer verdict after = record { answer = verdict; after = after }
+use Rattle.entering.specs.Enter.{answerWith, heldThen, roomRule, enterOf, recordAfter, answeredBy, entered}
 
 module _ (r : Record) (file : List ℕ) where
-  pub refused-so : (v : Verdict) → (numberOf v ≡ 0 → ⊥) → answer v r ≡ answeredBy r file v
+  pub refused-so : (v : Verdict) → (numberOf v ≡ 0 → ⊥) → answerWith v r ≡ answeredBy r file v
   unfolding recordAfter
   refused-so v h = rw (ne-eqb (numberOf v) 0 h)
 
@@ -42,15 +38,15 @@ module _ (r : Record) (file : List ℕ) where
     many : next .refused ≡ ltb mostHeld (length (heldThen r file))
     many = ap (λ m. m .refused) came ∙ ap (λ l. ltb mostHeld (length l)) all
 
-    pub too-many : next .refused ≡ true → answer TooManyAreas r ≡ answeredBy r file (roomRule r file)
+    pub too-many : next .refused ≡ true → answerWith TooManyAreas r ≡ answeredBy r file (roomRule r file)
     unfolding roomRule recordAfter
     too-many t = rw (lt-leb (length (heldThen r file)) mostHeld (ltb-true mostHeld (length (heldThen r file)) (sym many ∙ t)))
 
-    pub taken : next .refused ≡ false → answer Accepted (next .after) ≡ answeredBy r file (roomRule r file)
+    pub taken : next .refused ≡ false → answerWith Accepted (next .after) ≡ answeredBy r file (roomRule r file)
     unfolding roomRule recordAfter
     taken t =
         rw (le-leb (length (heldThen r file)) mostHeld (ltb-false mostHeld (length (heldThen r file)) (sym many ∙ t)))
-        (ap (answer Accepted)
+        (ap (answerWith Accepted)
         (ap (λ m. m .after) came
         ∙ pick-second (ltb mostHeld (length (markedAll (markedAreas file) (entries aged)))) aged _ (sym (ap (λ m. m .refused) came) ∙ t)
         ∙ ap₂ recordOf (ap (λ s. s .last) stands) all))

@@ -17,6 +17,9 @@ use Rattle.recording.specs.Record.{entries, recordOf, kept, markedAll, pick}
 use Rattle.record_check.specs.Left.{recordRule, daysBetween}
 use Rattle.entering.specs.declared.Entered.{Entered}
 
+abbrev pub answerWith : Verdict → Record → Entered
+answerWith verdict after = record { answer = verdict; after = after }
+
 module _ (r : Record) (file : List ℕ) where
   -- the areas held after the entry: those that keep a marked day, and those that are marked on the day
   abbrev pub heldThen : List Place
@@ -36,7 +39,7 @@ module _ (r : Record) (file : List ℕ) where
 
   -- the answer of an entry with the record afterwards
   abbrev pub answeredBy : Verdict → Entered
-  answeredBy verdict = record { answer = verdict; after = recordAfter verdict }
+  answeredBy verdict = answerWith verdict (recordAfter verdict)
 
   abbrev pub entered : Entered
   entered = answeredBy enterOf

@@ -12,12 +12,22 @@ ghost use Rattle.marking.specs.Marked.{markedFrom};
 ghost use Rattle.recording.specs.Record.{entries, markedAll, Sound, answered};
 ghost use Rattle.record_check.specs.Left.{recordRule};
 ghost use Rattle.settlement.specs.SoundFile.{SoundFile};
-ghost use Rattle.entering.specs.Enter.{roomRule, recordAfter, answeredBy, entered};
+ghost use Rattle.entering.specs.Enter.{answerWith, roomRule, answeredBy, entered};
 
 // The answer of an entry, and the record afterwards: a refusal leaves it as it was.
 pub struct Entered {
     pub answer: Verdict,
     pub after: Record,
+}
+
+// A refusal leaves the record as it was.
+fn refuse(answer: Verdict, given: Record) -> Entered
+    ensures { λ r. ⌜ r ≡ answerWith answer given ⌝ }
+{
+    Entered {
+        answer,
+        after: given,
+    }
 }
 
 // The day marked for each area of the file that failed, for all of them or for none.
@@ -59,10 +69,7 @@ fn enter_after(given: Record, file: &[u8]) -> Entered
     let next = mark_areas(aged, file, n);
     let refused = next.refused;
     if refused {
-        return Entered {
-            answer: Verdict::TooManyAreas,
-            after: given,
-        };
+        return refuse(Verdict::TooManyAreas, given);
     }
     let after = next.after;
     Entered {
@@ -78,17 +85,11 @@ pub fn enter(given: Record, file: &[u8]) -> Entered
 {
     let checked = dayfile::check(file);
     if verdict::number(checked) != 0 {
-        return Entered {
-            answer: checked,
-            after: given,
-        };
+        return refuse(checked, given);
     }
     let judged = record_check::judge(given, words::word(file, 1));
     if verdict::number(judged) != 0 {
-        return Entered {
-            answer: judged,
-            after: given,
-        };
+        return refuse(judged, given);
     }
     enter_after(given, file)
 }

@@ -42,24 +42,26 @@ past-check c =
 
 returns : tie.Need-returns
 returns c =
-    let s = c .before .before .before .before in
+    let t = c .before in
+    let s = t .before .before .before .before in
     let r = s .args .given in
     let f = now (s .args .file) in
-    refused-so r f _ (λ q. c .if1 .taken (c .before .number .ensures ∙ q))
-    ∙ ap (answeredBy r f) (seq-stop _ _ _ _ _ (opened r f) (c .before .before .check .ensures) (c .before .number .ensures) (c .if1 .taken))
+    c .refuse .ensures ∙ refused-so r f _ (λ q. t .if1 .taken (t .before .number .ensures ∙ q))
+    ∙ ap (answeredBy r f) (seq-stop _ _ _ _ _ (opened r f) (t .before .before .check .ensures) (t .before .number .ensures) (t .if1 .taken))
 
 word-requires : tie.Need-word-requires
 word-requires c κs = let r = sound-file _ (accepted c) .room in omega arith
 
 returns-2 : tie.Need-returns-2
 returns-2 c =
-    let j = c .before .before in
+    let t = c .before in
+    let j = t .before .before in
     let e = j .before .before in
     let s = e .before .before .before .before in
     let r = s .args .given in
     let f = now (s .args .file) in
-    refused-so r f _ (λ q. c .if2 .taken (c .before .number2 .ensures ∙ q))
-    ∙ ap (answeredBy r f) (seq-stop _ _ _ _ _ (past-check e) (judged j) (c .before .number2 .ensures) (c .if2 .taken))
+    c .refuse2 .ensures ∙ refused-so r f _ (λ q. t .if2 .taken (t .before .number2 .ensures ∙ q))
+    ∙ ap (answeredBy r f) (seq-stop _ _ _ _ _ (past-check e) (judged j) (t .before .number2 .ensures) (t .if2 .taken))
 
 enter-after-requires : tie.Need-enter-after-requires
 enter-after-requires c κs =
@@ -78,4 +80,4 @@ returns-3 c =
 
 pub enter-spec : {M : Type 1} → statement M
 enter-spec =
-    tie.close (tie.spec (λ c κs. search needs) (λ c κs. search needs) returns word-requires (λ c κs. search needs) (λ c κs. search needs) returns-2 enter-after-requires returns-3)
+    tie.close (tie.spec (λ c κs. search needs) (λ c κs. search needs) (λ c κs. search needs) returns word-requires (λ c κs. search needs) (λ c κs. search needs) (λ c κs. search needs) returns-2 enter-after-requires returns-3)

@@ -68,9 +68,10 @@ mark-areas-requires c κs =
 
 returns : tie.Need-returns
 returns c =
-    let m = c .before in
+    let m = c .before .before in
     let s = m .before .before .before .before .before .before in
-    too-many (s .args .given) (now (s .args .file)) (m .before .age-all .result) (m .mark-areas .result) (aged (m .before)) (came m) (c .if1 .taken)
+    c .refuse .ensures
+    ∙ too-many (s .args .given) (now (s .args .file)) (m .before .age-all .result) (m .mark-areas .result) (aged (m .before)) (came m) (c .before .if1 .taken)
 
 returns-2 : tie.Need-returns-2
 returns-2 c =
@@ -80,4 +81,4 @@ returns-2 c =
 
 pub enter-after-spec : {M : Type 1} → statement M
 enter-after-spec =
-    tie.close (tie.spec word-requires word-requires-2 (λ c. search needs) gap-requires age-all-requires mark-areas-requires returns returns-2)
+    tie.close (tie.spec word-requires word-requires-2 (λ c. search needs) gap-requires age-all-requires mark-areas-requires (λ c κs. search needs) returns returns-2)

@@ -173,8 +173,10 @@ formula date t =
     let ey : 2000 + (y - 2000) ≡ y = omega (arith, r .from) in
     let em : m - 1 + 1 ≡ m = omega (arith, r .first-month) in
     let a : dayNumber (10000 * y) ≡ 365 * (y - 2000) + (y - 2000 + 3) / 4 = rw ey at (years (y - 2000) (omega (arith, r .to))) in
-    let b : dayNumber (10000 * y + 100 * m) ≡ dayNumber (10000 * y) + daysOfMonths y (m - 1) = rw em at (months y (r .from) (r .to) (m - 1) (omega (arith, r .last-month))) in
-    let n : dayNumber (10000 * y + 100 * m + d) ≡ dayNumber (10000 * y + 100 * m) + min (d - 1) (daysIn y m) = days y (r .from) (r .to) m d (r .first-month) (r .last-month) (omega arith) in
+    let b : dayNumber (10000 * y + 100 * m) ≡ dayNumber (10000 * y) + daysOfMonths y (m - 1) = rw em at
+    (months y (r .from) (r .to) (m - 1) (omega (arith, r .last-month))) in
+    let n : dayNumber (10000 * y + 100 * m + d) ≡ dayNumber (10000 * y + 100 * m) + min (d - 1) (daysIn y m) = days y (r .from) (r .to) m d
+    (r .first-month) (r .last-month) (omega arith) in
     ap dayNumber e ∙ omega (arith, a, b, n, r .first-day, r .last-day, r .from)
 
 -- ---- the laws

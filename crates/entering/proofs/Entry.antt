@@ -66,7 +66,8 @@ module _ (r : Record) (file : List ℕ) where
       record {
         checked = or-first (checkOf file) _ z;
         judged = or-first (recordRule r (dayOf file)) _ rest;
-        few = leb-true _ _ (rule-kept (leb (length (heldThen r file)) mostHeld) _ Accepted (λ q. omega arith) (or-second (recordRule r (dayOf file)) _ rest) .0);
+        few = leb-true _ _ (rule-kept (leb (length (heldThen r file)) mostHeld) _ Accepted (λ q. omega arith)
+            (or-second (recordRule r (dayOf file)) _ rest) .0);
       }
 
   pub entry-so : EntryTaken r file → numberOf (enterOf r file) ≡ 0

@@ -2,6 +2,7 @@
 // gives. Amounts are cents, prices ten-thousandths of a dollar. A day here is one area of kind 0 with one coordinator: an
 // hour is 33 words, the first hour's begin at word 15. Days are handed on by value, in room for the longest body: lent,
 // each write would cost the check of this program four times as much.
+use recording::Record;
 use sharing::Row;
 use verdict::Verdict;
 
@@ -347,6 +348,64 @@ fn off_peak_scaling() {
     off_peak(b"The same with d 5, U 10:", 5, 10000, 60000, 250000);
 }
 
+// Request 3: a day that is short of `upward` in the hour ending 3, at $25, and says d 30 of itself.
+fn short_day(date: u32, upward: u32) -> [u8; ROOM] {
+    let day = quiet_day(limits::PEAK_WORD, limits::MOST_DAYS, 0, 0);
+    let day = put(day, 1, date);
+    let day = put_deficiency(day, 2, upward, 60000);
+    put_price(day, 2, 250000)
+}
+
+fn show_word(word: u32) {
+    show::space();
+    show::unsigned(word as u64);
+}
+
+fn show_record(given: Record) {
+    let words = record_words::words_of(given);
+    show_word(words[0]);
+    show_word(words[1]);
+    show_word(words[2]);
+    show_word(words[3]);
+    show::end();
+}
+
+// The answer, and the record's last day, areas held, and first area with its marks.
+fn entered(label: &[u8], given: Record, date: u32, upward: u32) -> Record {
+    let day = short_day(date, upward);
+    let entry = entering::enter(given, &day[0..DAY_BYTES]);
+    let answer = entry.answer;
+    show::text(label);
+    show_verdict(answer);
+    let after = entry.after;
+    show_record(after);
+    after
+}
+
+fn settled_with(label: &[u8], given: Record, date: u32) {
+    let day = short_day(date, 40000);
+    let mut statement = [0i64; AREA_NUMBERS];
+    let answer = recorded::settle_recorded(given, &day[0..DAY_BYTES], &mut statement);
+    show::text(label);
+    show_verdict(answer);
+    show_hour(&statement, 2);
+}
+
+// The days of docs/FORMAT.md: marked on 28 February, 1 and 3 March 2024.
+fn failing_days() {
+    let none = recording::empty(0);
+    let first = entered(b"Request 3, 28 February, U 40:", none, 20240228, 40000);
+    let second = entered(b"29 February, U 10:", first, 20240229, 10000);
+    let third = entered(b"1 March, U 10.001:", second, 20240301, 10001);
+    let fourth = entered(b"3 March, U 40:", third, 20240303, 40000);
+    settled_with(b"4 March, d 3:", fourth, 20240304);
+    settled_with(b"29 March, d 3:", fourth, 20240329);
+    settled_with(b"30 March, d 2:", fourth, 20240330);
+    settled_with(b"2 April, d 1:", fourth, 20240402);
+    settled_with(b"3 April, d 0:", fourth, 20240403);
+    entered(b"3 March again:", fourth, 20240303, 40000);
+}
+
 fn put_coordinators(before: [u8; ROOM]) -> [u8; ROOM] {
     let mut day = before;
     let mut i: u8 = 0;
@@ -381,6 +440,7 @@ fn main() {
     sharing();
     case_p();
     off_peak_scaling();
+    failing_days();
     longest_body(b"A body of 2,951 words:", LONGEST_BODY);
     longest_body(b"Its length said to be 2,952:", LONGEST_BODY + 1);
 }

@@ -5,7 +5,8 @@ use mathlib.Core.Path.{_≡_, refl}
 use native.Mathlib.Omega.{arith}
 use borrow.Author.Tests.{leb-true, le-leb}
 use Rattle.limits.specs.declared.Limits.{Limits}
-use Rattle.limits.specs.Editions.{mostAreas, mostHeld, mostBytes, editionOne, widestEdition, limitsOf, KnownEdition, bytesAllowed, WithinBytes, Plain, RoomFor}
+use Rattle.limits.specs.Editions.{mostAreas, mostHeld, mostBytes, editionOne, widestEdition}
+use Rattle.limits.specs.Editions.{limitsOf, KnownEdition, bytesAllowed, WithinBytes, Plain, RoomFor}
 
 pub plain : (edition : ℕ) → Plain (limitsOf edition)
 unfolding limitsOf editionOne

@@ -5,7 +5,8 @@ use native.Mathlib.Omega.{arith}
 use native.Mathlib.Numerals.{add-one}
 use mathlib.Core.Logic.{dite}
 use native.Mathlib.Decide.{decLt, ℕ-discrete}
-use native.Mathlib.Nat.{zero-div, zero-mul, div-eq-of-lt, pow-le-pow-right, pow-zero, pow-suc, div-one, mul-one, mul-assoc, div-div-eq-div-mul, pow-succ', mod-lt, one-le-pow, mod-eq-of-lt}
+use native.Mathlib.Nat.{zero-div, zero-mul, div-eq-of-lt, pow-le-pow-right, pow-zero, pow-suc, div-one}
+use native.Mathlib.Nat.{mul-one, mul-assoc, div-div-eq-div-mul, pow-succ', mod-lt, one-le-pow, mod-eq-of-lt}
 use lib.Arith.{mod-mul}
 use Rattle.limits.specs.Ranges.{recordedDays}
 use Rattle.marks.specs.Marks.{bitAt, aged, bitsBelow}
@@ -66,7 +67,8 @@ by-bits zero x y h k same = let a = rw pow-zero at h in let b = rw pow-zero at k
 by-bits (suc n) x y h k same =
     let a : x < 2 ^ n * 2 = rw pow-suc at h in
     let b : y < 2 ^ n * 2 = rw pow-suc at k in
-    let e : x / 2 ≡ y / 2 = by-bits n (x / 2) (y / 2) (omega arith) (omega arith) (λ i l. sym (bit-suc x i) ∙ same (suc i) (omega arith) ∙ bit-suc y i) in
+    let e : x / 2 ≡ y / 2 = by-bits n (x / 2) (y / 2) (omega arith) (omega arith)
+    (λ i l. sym (bit-suc x i) ∙ same (suc i) (omega arith) ∙ bit-suc y i) in
     let z : x % 2 ≡ y % 2 = sym (bit-zero x) ∙ same 0 (omega arith) ∙ bit-zero y in
     omega arith
 

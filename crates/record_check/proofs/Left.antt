@@ -43,7 +43,8 @@ place-kept end low p t =
 
 -- ---- one turn of the two loops
 
-module _ (end low : ℕ) (l : List Place) (k : ℕ) (d : Place) (whole : Bool) (inside : k < length l) (stands : whole ≡ placesLeft end low (drop k l)) where
+module _ (end low : ℕ) (l : List Place) (k : ℕ) (d : Place) (whole : Bool) (inside : k < length l)
+    (stands : whole ≡ placesLeft end low (drop k l)) where
   opened : whole ≡ (placeLeft end low (getD l k d) && placesLeft end (getD l k d .area + 1) (drop (k + 1) l))
   unfolding placesLeft
   opened = stands ∙ ap (placesLeft end low) (drop-next l k d inside)
@@ -121,4 +122,9 @@ unfolding marksOf
 days-few r date area b =
     dite (ℕ-discrete (r .last) 0)
     (λ e. let none : r .held ≡ 0 = b .left .last .none e in rw none (omega (arith, bits-none (recordedDays + 1 - daysBetween r date))))
-    (λ n. omega (arith, bits-most (marksOf area (entries r)) (recordedDays + 1 - daysBetween r date), rising (r .last) date (b .left .last .real n) (b .after)))
+    (λ n. omega (
+      arith,
+      bits-most (marksOf area (entries r)) (recordedDays + 1 - daysBetween r date),
+      rising (r .last) date (b .left .last .real n)
+          (b .after),
+    ))

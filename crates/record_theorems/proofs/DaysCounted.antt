@@ -1,5 +1,5 @@
--- The d that settlement with the record uses is the number of days, among the thirty before the trading day, on which the list of accepted entries has a
--- file that marks the area.
+-- The d that settlement with the record uses is the number of days, among the thirty before the trading day, on which the list of accepted
+-- entries has a file that marks the area.
 use Prim.Native.Nat.{ℕ, zero, suc, _+_, _-_, _<_, _≤_}
 use mathlib.Core.List.{List, [], _∷_}
 use mathlib.Core.Logic.{dite}
@@ -58,7 +58,9 @@ module _ (files : List (List ℕ)) (order : InOrder (entriesOf files)) (day area
 none-marked : (day area n : ℕ) → markedDays [] day area n ≡ 0
 unfolding markedDays markedOn
 none-marked day area zero = refl
-none-marked day area (suc n) = dite (decLt day (suc n)) (λ h. rw (lt-leb (suc n) day h) (omega (arith, none-marked day area n))) (λ h. rw (le-leb (suc n) day (omega (arith, h))) (omega (arith, none-marked day area n)))
+none-marked day area (suc n) =
+    let rest = none-marked day area n in
+    dite (decLt day (suc n)) (λ h. rw (lt-leb (suc n) day h) (omega arith)) (λ h. rw (le-leb (suc n) day (omega (arith, h))) (omega arith))
 
 module _ (date area : ℕ) (body : List ℕ) where
   counted-is : (files : List (List ℕ)) → AllEntered files → lastDay files < date
@@ -72,7 +74,8 @@ module _ (date area : ℕ) (body : List ℕ) where
       let later = rising (dayOf file) date (day-real file (entry-says (afterFiles files) file (a .0) .checked)) h in
       sym (d-is area (entriesOf all) (dayNumber date) (left .order) (omega (arith, n, later)))
       ∙ ap (λ g. counted (marksOf area (heldAfter (entriesOf all))) (dayNumber date - g)) (sym n)
-      ∙ rw (left .is) (ap (λ l. counted (marksOf area l) (dayNumber date - dayNumber (lastDay all))) (sym (entries-of (lastDay all) (heldAfter (entriesOf all)))))
+      ∙ rw (left .is) (ap (λ l. counted (marksOf area l) (dayNumber date - dayNumber (lastDay all)))
+      (sym (entries-of (lastDay all) (heldAfter (entriesOf all)))))
 
 pub days-counted : (files : List (List ℕ)) → AllEntered files → (date area : ℕ) (body : List ℕ) → lastDay files < date
     → Counts (λ i. MarkedBefore files (dayNumber date) area (suc i)) recordedDays (recordDays (afterFiles files) date area body)

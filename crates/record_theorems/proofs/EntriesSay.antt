@@ -1,5 +1,5 @@
--- The record after any list of accepted entries is what the list says: its last day is the last file's, an area is held exactly if some file of the last
--- thirty days marks it, and bit i of its marks is set exactly if the file of the day i days before marks it.
+-- The record after any list of accepted entries is what the list says: its last day is the last file's, an area is held exactly if some file of
+-- the last thirty days marks it, and bit i of its marks is set exactly if the file of the day i days before marks it.
 use Prim.Native.Nat.{ℕ, zero, suc, _+_, _-_, _<_, _≤_}
 use mathlib.Core.Bool.{Bool, true, false}
 use mathlib.Core.List.{List, [], _∷_}
@@ -23,7 +23,8 @@ use Rattle.recording.proofs.InPlace.{entries-of, listed-of}
 use Rattle.marking.specs.Marked.{Marked, markedIn, markedFrom}
 use Rattle.marking.proofs.MarkedAreas.{marked-so, marked-says}
 use Rattle.record_theorems.specs.Entries.{Entry, lastOf, heldAfter, oneIf, markedOn, AllMarked, InOrder}
-use Rattle.record_theorems.specs.Files.{afterFiles, AllEntered, lastDay, fileAt, MarkedBy, MarkedBefore, MarkedWithin, Held, EntriesSay, entriesOf}
+use Rattle.record_theorems.specs.Files.{afterFiles, AllEntered, lastDay, fileAt, MarkedBy}
+use Rattle.record_theorems.specs.Files.{MarkedBefore, MarkedWithin, Held, EntriesSay, entriesOf}
 use Rattle.record_theorems.proofs.EntriesLaws.{one-here, one-past, last-before, what-the-entries-say, none-before-the-first}
 use Rattle.record_theorems.proofs.Determined.{all-after}
 use Rattle.record_theorems.proofs.LeftByEntries.{left-by-entries}
@@ -73,7 +74,9 @@ module _ (file : List ℕ) (area : ℕ) where
       let t : markedIn (bodyAt file k) ≡ true = rw e at (a .marked) in
       ap (oneIf area) (from-in k m t) ∙ one-here area (markedFrom file (suc k) m) (numberAt file k) (rw e at (a .number)))
       (λ e.
-      let rest = one-so (suc k) m (record { k = a .k; above = omega (arith, a .above, e); below = omega (arith, a .below); number = a .number; marked = a .marked }) in
+      let there : MarkedAt file area (suc k) m =
+      record { k = a .k; above = omega (arith, a .above, e); below = omega (arith, a .below); number = a .number; marked = a .marked } in
+      let rest = one-so (suc k) m there in
       by (markedIn (bodyAt file k)) refl rest)
     where
       by : (t : Bool) → markedIn (bodyAt file k) ≡ t → oneIf area (markedFrom file (suc k) m) ≡ 1 → oneIf area (markedFrom file k (suc m)) ≡ 1
@@ -102,13 +105,30 @@ module _ (day area : ℕ) where
       dite (ℕ-discrete (dayNumber (dayOf file)) day)
       (λ h.
       let a = one-says file area 0 (areasOf file) (sym (on-here _ (entriesOf files) h) ∙ e) in
-      record { j = 0; listed = omega arith; of-day = h; k = a .k; among = omega (arith, a .below); number = a .number; marked = marked-says _ (a .marked) })
+      record {
+        j = 0;
+        listed = omega arith;
+        of-day = h;
+        k = a .k;
+        among = omega (arith, a .below);
+        number = a .number;
+        marked = marked-says _ (a .marked);
+      })
       (λ h.
       let m = on-says files (sym (on-past _ (entriesOf files) h) ∙ e) in
-      record { j = suc (m .j); listed = omega (arith, m .listed); of-day = m .of-day; k = m .k; among = m .among; number = m .number; marked = m .marked })
+      record {
+        j = suc (m .j);
+        listed = omega (arith, m .listed);
+        of-day = m .of-day;
+        k = m .k;
+        among = m .among;
+        number = m .number;
+        marked = m .marked;
+      })
 
   -- no file of the list is of a day after the last one
-  older : (files : List (List ℕ)) → InOrder (entriesOf files) → (j : ℕ) → j < length files → dayNumber (dayOf (fileAt files j)) ≤ lastOf (entriesOf files)
+  older : (files : List (List ℕ)) → InOrder (entriesOf files) → (j : ℕ) → j < length files
+      → dayNumber (dayOf (fileAt files j)) ≤ lastOf (entriesOf files)
   unfolding entriesOf lastOf
   older [] o j h = absurd (omega arith)
   older (file ∷ files) o zero h = omega arith
@@ -130,7 +150,8 @@ module _ (day area : ℕ) where
           → (MarkedBy files day area → markedOn (entriesOf files) day area ≡ 1) → markedOn (entriesOf (file ∷ files)) day area ≡ 1
       by zero listed of-day among number marked rest =
           on-here _ (entriesOf files) of-day
-          ∙ one-so file area 0 (areasOf file) (record { k = m .k; above = omega arith; below = omega (arith, among); number = number; marked = marked-so _ marked })
+          ∙ one-so file area 0 (areasOf file)
+          (record { k = m .k; above = omega arith; below = omega (arith, among); number = number; marked = marked-so _ marked })
       by (suc j) listed of-day among number marked rest =
           on-past _ (entriesOf files) (λ e. omega (arith, e, of-day, earlier file files o j (omega arith)))
           ∙ rest (record { j = j; listed = omega arith; of-day = of-day; k = m .k; among = among; number = number; marked = marked })

@@ -76,7 +76,8 @@ module _ (file : List ℕ) (accepted : numberOf (checkOf file) ≡ 0) where
   unfolding markedFrom
   known-file k zero e = tt
   known-file k (suc m) e =
-      known-if (markedIn (bodyAt file k)) (numberAt file k) (markedFrom file (suc k) m) (file-entry limits file (within file accepted) k (omega arith) .small)
+      known-if (markedIn (bodyAt file k)) (numberAt file k) (markedFrom file (suc k) m)
+      (file-entry limits file (within file accepted) k (omega arith) .small)
       (known-file (suc k) m (omega arith))
 
   marked-rising : RisingNumbers 1 (markedAreas file)
@@ -128,7 +129,8 @@ held-next : (r : Record) (file : List ℕ) (files : List (List ℕ)) → r ≡ r
 unfolding entriesOf heldAfter
 held-next r file files is =
     ap (heldThen′ file) is
-    ∙ ap (λ l. markedAll (markedAreas file) (kept (dayNumber (dayOf file) - dayNumber (lastDay files)) l)) (entries-of (lastDay files) (heldAfter (entriesOf files)))
+    ∙ ap (λ l. markedAll (markedAreas file) (kept (dayNumber (dayOf file) - dayNumber (lastDay files)) l))
+    (entries-of (lastDay files) (heldAfter (entriesOf files)))
     ∙ ap (λ n. markedAll (markedAreas file) (kept (dayNumber (dayOf file) - n) (heldAfter (entriesOf files)))) (last-number files)
   where
     heldThen′ : List ℕ → Record → List Place

@@ -17,7 +17,8 @@ use Rattle.recording.proofs.AreaMarks.{marks-here, marks-past}
 use Rattle.made.specs.Made.{RisingNumbers}
 use Rattle.record_theorems.specs.Entries.{Entry, lastOf, heldAfter, oneIf, markedOn, Rising, Before, InOrder, AllMarked}
 use Rattle.record_theorems.specs.Left.{Left, Fitting, areasAt, entriesFor, lastEntries}
-use Rattle.record_theorems.proofs.EntriesLaws.{one-here, one-past, absent, one-absent, one-most, even, marks-after, rising-after, what-the-entries-say, none-before-the-first}
+use Rattle.record_theorems.proofs.EntriesLaws.{one-here, one-past, absent, one-absent, one-most}
+use Rattle.record_theorems.proofs.EntriesLaws.{even, marks-after, rising-after, what-the-entries-say, none-before-the-first}
 use Rattle.record_theorems.proofs.Determined.{all-after, determined}
 
 -- ---- what entries leave may be left
@@ -77,7 +78,8 @@ module _ (i : ℕ) where
       (λ a. rw (marks-here b p l a) (one-here b (areasAt i l) (p .area) a ∙ sym e))
       (λ a. rw (marks-past b p l a) (one-past b (areasAt i l) (p .area) a ∙ rest))))
       (λ e. rw (at-clear p l e) (dite (ℕ-discrete (p .area) b)
-      (λ a. rw (marks-here b p l a) (one-absent b (p .area + 1) (areasAt i l) (numbers-at (p .area + 1) l (r .1)) (omega arith) ∙ omega (arith, e, bit-most (p .marks) i)))
+      (λ a. rw (marks-here b p l a) (one-absent b (p .area + 1) (areasAt i l) (numbers-at (p .area + 1) l (r .1)) (omega arith)
+      ∙ omega (arith, e, bit-most (p .marks) i)))
       (λ a. rw (marks-past b p l a) rest)))
 
 module _ (day : ℕ) (l : List Place) (r : Rising 0 l) where
@@ -147,7 +149,12 @@ module _ (day : ℕ) (l : List Place) (may : Left day l) where
   unfolding entriesFor
   fitting i zero h = tt
   fitting i (suc n) h = (
-    omega (arith, may .few, no-longer 0 0 (heldAfter (entriesFor day l i (suc n))) l (rising-after (entriesFor day l i (suc n))) (may .rising) (all-after (entriesFor day l i (suc n))) (λ b z. made-zero day l (may .rising) b i (suc n) h z)),
+    omega (
+      arith,
+      may .few,
+      no-longer 0 0 (heldAfter (entriesFor day l i (suc n))) l (rising-after (entriesFor day l i (suc n))) (may .rising)
+          (all-after (entriesFor day l i (suc n))) (λ b z. made-zero day l (may .rising) b i (suc n) h z),
+    ),
     fitting (suc i) n (omega arith),
   )
 

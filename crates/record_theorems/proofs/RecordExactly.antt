@@ -1,4 +1,5 @@
--- Refusal 14, "a record that no accepted entries leave": it is given exactly for those, of the records that have a place for each area that may be held.
+-- Refusal 14, "a record that no accepted entries leave": it is given exactly for those, of the records that have a place for each area that may
+-- be held.
 use Prim.Native.Nat.{ℕ}
 use mathlib.Core.Bool.{Bool, true, false, false≢true}
 use mathlib.Core.List.{List, []}
@@ -54,7 +55,8 @@ unfolding roomRule
 room-other r file true q e = let z = rw q at e in omega arith
 room-other r file false q e = let z = rw q at e in omega arith
 
-settled-other : (d : ℕ → List ℕ → ℕ) (file : List ℕ) (room : ℕ) → numberOf (checkOf file) ≡ 0 → numberOf (acceptedRule (daysBy d file) file room) ≡ 14 → ⊥
+settled-other : (d : ℕ → List ℕ → ℕ) (file : List ℕ) (room : ℕ) → numberOf (checkOf file) ≡ 0 → numberOf (acceptedRule (daysBy d file) file room) ≡ 14
+    → ⊥
 unfolding settleWith
 settled-other d file room z e =
     let is : numberOf (settleBy d file room) ≡ 14 = ap numberOf (or-next (checkOf file) _ z) ∙ e in
@@ -137,4 +139,5 @@ pub record-exactly-settled : (r : Record) → length (r .places) ≡ mostHeld �
     → (numberOf (settleRecorded r file room) ≡ 14) ↔ ((numberOf (checkOf file) ≡ 0) × (Leaving r → ⊥))
 unfolding settleRecorded
 record-exactly-settled r whole file room =
-    exactly r whole file (acceptedRule (daysBy (recordDays r (dayOf file)) file) file room) (λ z e. settled-other (recordDays r (dayOf file)) file room z e)
+    exactly r whole file (acceptedRule (daysBy (recordDays r (dayOf file)) file) file room)
+    (λ z e. settled-other (recordDays r (dayOf file)) file room z e)

@@ -1,4 +1,5 @@
--- Days entered one after the other, each by its number and the areas that are marked on it, and the areas held after them. They are listed the last one first.
+-- Days entered one after the other, each by its number and the areas that are marked on it, and the areas held after them. The last one is listed
+-- first.
 use Prim.Native.Nat.{ℕ, zero, suc, _+_, _-_, _<_, _≤_}
 use mathlib.Core.Path.{_≡_}
 use mathlib.Core.Bool.{cond}

@@ -1,4 +1,5 @@
--- Which lists of areas accepted entries leave on a day: the areas rising, each with a marked day, none further back than thirty days or than the first day.
+-- Which lists of areas accepted entries leave on a day: the areas rising, each with a marked day, none further back than thirty days or than the
+-- first of all.
 use Prim.Native.Nat.{ℕ, zero, suc, _-_, _<_, _≤_, _^_, min}
 use mathlib.Core.Path.{_≡_}
 use mathlib.Core.Bool.{true, cond}

@@ -1,5 +1,5 @@
--- What settlement with the record leaves of a statement, and the theorems that hold of it: those of settlement under the d that the record counts. Files that
--- are compared are of one trading day, under the same record.
+-- What settlement with the record leaves of a statement, and that it is settlement under the d that the record counts, of which the theorems hold.
+-- Files that are compared are of one trading day, under the same record.
 use Prim.Native.Nat.{ℕ}
 use mathlib.Core.List.{List}
 use mathlib.Core.Path.{_≡_}

@@ -15,7 +15,8 @@ use Rattle.record_words.specs.Words.{recordWords, placeIn, Says}
 
 -- ---- what is said is fixed
 
-pub record-said : (words : List ℕ) (one other : Record) → length (one .places) ≡ mostHeld → length (other .places) ≡ mostHeld → Says words one → Says words other
+pub record-said : (words : List ℕ) (one other : Record) → length (one .places) ≡ mostHeld → length (other .places) ≡ mostHeld → Says words one
+    → Says words other
     → one ≡ other
 record-said words one other h k s t =
     ap₂ with-places (ap₂ with-head (sym (s .last) ∙ t .last) (sym (s .held) ∙ t .held))

@@ -1,5 +1,5 @@
--- The words of a record, in which it is kept from one day to the next (docs/FORMAT.md): the last day entered, the number of areas held, then for each place an
--- area's number and its marks.
+-- The words of a record, in which it is kept from one day to the next (docs/FORMAT.md): the last day entered, the number of areas held, then for
+-- each place an area's number and its marks.
 use Prim.Native.Nat.{ℕ, _+_, _*_, _<_}
 use mathlib.Core.List.{List}
 use mathlib.Core.Path.{_≡_}

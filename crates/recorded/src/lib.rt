@@ -33,7 +33,8 @@ fn recorded_days(given: Record, g: u32, file: &[u8], n: usize) -> [u32; limits::
 // Past 18: 13, then areas and hours in order, and where nothing is refused the statement.
 fn settle_after(given: Record, file: &[u8], statement: &mut [i64]) -> Verdict
     requires { ⌜ (numberOf (checkOf (now file)) ≡ 0) × (numberOf (recordRule given (dayOf (now file))) ≡ 0) ⌝ }
-    ensures { λ r. ⌜ r ≡ acceptedRule (daysBy (recordDays given (dayOf (now (file .entry)))) (now (file .entry))) (now (file .entry)) (length (now (statement .entry))) ⌝ }
+    ensures { λ r. ⌜ r ≡ acceptedRule (daysBy (recordDays given (dayOf (now (file .entry)))) (now (file .entry))) (now (file .entry))
+        (length (now (statement .entry))) ⌝ }
     ensures { λ r. ⌜ now (statement .exit) ≡ afterRecorded given (now (file .entry)) r (now (statement .entry)) ⌝ }
 {
     let date = words::word(file, 1);

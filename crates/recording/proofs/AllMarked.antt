@@ -96,7 +96,8 @@ sound-of most last l r e few h s =
     subst (Sound most) (sym e)
     (record { few = few; listed = listed-of (recordOf last l) last l refl; small = small-at most l (mostHeld - length l) h s })
 
-pub aged-sound : (g last : ℕ) (given aged : Record) → given .held ≤ mostHeld → aged ≡ recordOf last (kept g (entries given)) → Sound (2 ^ recordedDays) aged
+pub aged-sound : (g last : ℕ) (given aged : Record) → given .held ≤ mostHeld → aged ≡ recordOf last (kept g (entries given))
+    → Sound (2 ^ recordedDays) aged
 aged-sound g last given aged few e =
     sound-of (2 ^ recordedDays) last (kept g (entries given)) aged e
     (omega (arith, kept-most g (entries given), length-take (given .held) (given .places))) (omega arith) (small-kept g (entries given))
@@ -147,7 +148,8 @@ module _ (given : Record) (areas : List ℕ) (least : ℕ) (now : Record) (so-fa
     many = ap (λ m. m .refused) came ∙ ap (λ l. ltb mostHeld (length l)) grown
 
     -- a list never grows shorter, so a refusal is one for the whole
-    pub none-marked : next .refused ≡ true → (more : List ℕ) → answer true given ≡ answered (given .last) given (markedAll (with-it ++ more) (entries given))
+    pub none-marked : next .refused ≡ true → (more : List ℕ)
+        → answer true given ≡ answered (given .last) given (markedAll (with-it ++ more) (entries given))
     none-marked t more =
         answer-refused (given .last) given (markedAll (with-it ++ more) (entries given))
         (omega (arith, ltb-true mostHeld (length (markedAll with-it (entries given))) (sym many ∙ t), longer-part with-it more (entries given)))

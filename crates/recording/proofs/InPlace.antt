@@ -133,7 +133,8 @@ module _ (last held k : ℕ) (ps : List Place) where
       f ∙ ap (λ r. recordOf (r .last) (entries r ++ take (k - 0) (drop 0 ps))) e
       ∙ ap (λ l. recordOf last l) (ap (λ n. take n ps) (sub-zero k) ∙ sym (take-take k held ps h))
 
-  module _ (front with-it : Record) (p : Place) (below : k < mostHeld) (f : front ≡ recordOf last (take k (take held ps))) (e : with-it ≡ pushed front p) where
+  module _ (front with-it : Record) (p : Place) (below : k < mostHeld) (f : front ≡ recordOf last (take k (take held ps)))
+      (e : with-it ≡ pushed front p) where
     with-is : with-it ≡ recordOf last (take k (take held ps) ++ (p ∷ []))
     with-is = e ∙ ap (λ r. pushed r p) f ∙ push-list last (take k (take held ps)) p (omega (arith, length-take k (take held ps)))
 

@@ -29,7 +29,8 @@ push-list last l p h = ap₂ with-places longer stored
     longer : length l + 1 ≡ length (l ++ (p ∷ []))
     longer = sym (length-append l (p ∷ []))
 
-    stored : set (l ++ replicate (mostHeld - length l) (place 0 0)) (length l) p ≡ (l ++ (p ∷ [])) ++ replicate (mostHeld - length (l ++ (p ∷ []))) (place 0 0)
+    stored : set (l ++ replicate (mostHeld - length l) (place 0 0)) (length l) p
+        ≡ (l ++ (p ∷ [])) ++ replicate (mostHeld - length (l ++ (p ∷ []))) (place 0 0)
     stored =
         let e : mostHeld - length l ≡ suc (mostHeld - length (l ++ (p ∷ []))) = omega (arith, longer) in
         rw e (set-append-seam l (place 0 0) _ p ∙ sym (append-assoc l (p ∷ []) _))
@@ -40,7 +41,9 @@ module _ (g : ℕ) where
   kept-append [] ys = refl
   kept-append (p ∷ xs) ys = by (eqb (aged (p .marks) g) 0) (kept-append xs ys)
     where
-      by : (t : Bool) → kept g (xs ++ ys) ≡ kept g xs ++ kept g ys → cond t (kept g (xs ++ ys)) (place (p .area) (aged (p .marks) g) ∷ kept g (xs ++ ys)) ≡ cond t (kept g xs) (place (p .area) (aged (p .marks) g) ∷ kept g xs) ++ kept g ys
+      by : (t : Bool) → kept g (xs ++ ys) ≡ kept g xs ++ kept g ys
+          → cond t (kept g (xs ++ ys)) (place (p .area) (aged (p .marks) g) ∷ kept g (xs ++ ys))
+          ≡ cond t (kept g xs) (place (p .area) (aged (p .marks) g) ∷ kept g xs) ++ kept g ys
       by true e = e
       by false e = ap (λ l. place (p .area) (aged (p .marks) g) ∷ l) e
 
@@ -72,7 +75,8 @@ module _ (g : ℕ) where
     age-gone z =
         rw (kept-next ps i d h, kept-out (getD ps i d) [] (sym marks ∙ z), append-nil (kept g (take i ps))) stands
 
-    pub age-stays : (next : Record) → (m ≡ 0 → ⊥) → next ≡ pushed out (place (getD ps i d .area) m) → i < mostHeld → next ≡ recordOf last (kept g (take (i + 1) ps))
+    pub age-stays : (next : Record) → (m ≡ 0 → ⊥) → next ≡ pushed out (place (getD ps i d .area) m) → i < mostHeld
+        → next ≡ recordOf last (kept g (take (i + 1) ps))
     unfolding kept
     age-stays next n e l =
         let few : length (kept g (take i ps)) < mostHeld = omega (arith, kept-most (take i ps), length-take i ps) in

@@ -1,4 +1,5 @@
-// The record of failing days: the last day entered, and for each area with a marked day its marks. The record moves on by some days, and an area is marked.
+// The record of failing days: the last day entered, and for each area with a marked day its marks. It moves on by some days, and an area is
+// marked in it.
 ghost use mathlib.Core.Path.{_≡_};
 ghost use mathlib.Core.List.{[], _++_};
 ghost use lib.ListN.{length, take, drop};

@@ -22,14 +22,6 @@ returns c = let f = formula (c .before .args .date) (c .before .pre) in omega (a
 
 pub day-number-spec : {M : Type 1} → statement M
 day-number-spec =
-    tie.close
-    (tie.spec
-    (λ c. omega (arith, parts c .from))
-    (λ c. search needs)
-    (λ c. omega (arith, parts c .from))
-    (λ c. search needs)
-    (λ c κs. omega (arith, parts c .first-month, parts c .last-month))
-    add-result-2
-    (λ c. omega (arith, parts (c .before) .to, few c))
-    (λ c. omega (arith, parts (c .before) .first-day))
-    returns)
+    tie.close (tie.spec (λ c. omega (arith, parts c .from)) (λ c. search needs) (λ c. omega (arith, parts c .from)) (λ c. search needs)
+    (λ c κs. omega (arith, parts c .first-month, parts c .last-month)) add-result-2 (λ c. omega (arith, parts (c .before) .to, few c))
+    (λ c. omega (arith, parts (c .before) .first-day)) returns)

@@ -37,14 +37,4 @@ returns c =
 
 pub days-before-spec : {M : Type 1} → statement M
 days-before-spec =
-    tie.close
-    (tie.spec
-    Inv-loop
-    μ-loop
-    loop-holds
-    (λ c κs. search needs)
-    add-days
-    (λ c. search needs)
-    (λ c. search needs)
-    loop-again
-    returns)
+    tie.close (tie.spec Inv-loop μ-loop loop-holds (λ c κs. search needs) add-days (λ c. search needs) (λ c. search needs) loop-again returns)

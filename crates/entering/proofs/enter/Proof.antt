@@ -35,7 +35,8 @@ judged c =
 -- past the check, the record decides, and then the room
 past-check : (c : tie.Else1) →
     let s = c .before .before .before .before in
-    enterOf (s .args .given) (now (s .args .file)) ≡ (recordRule (s .args .given) (dayOf (now (s .args .file))) orElse roomRule (s .args .given) (now (s .args .file)))
+    enterOf (s .args .given) (now (s .args .file)) ≡ (recordRule (s .args .given) (dayOf (now (s .args .file))) orElse roomRule (s .args .given)
+    (now (s .args .file)))
 past-check c =
     let s = c .before .before .before .before in
     seq-next _ _ _ _ _ (opened (s .args .given) (now (s .args .file))) (c .before .before .check .ensures) (c .before .number .ensures) (c .if1 .left)
@@ -80,4 +81,5 @@ returns-3 c =
 
 pub enter-spec : {M : Type 1} → statement M
 enter-spec =
-    tie.close (tie.spec (λ c κs. search needs) (λ c κs. search needs) (λ c κs. search needs) returns word-requires (λ c κs. search needs) (λ c κs. search needs) (λ c κs. search needs) returns-2 enter-after-requires returns-3)
+    tie.close (tie.spec (λ c κs. search needs) (λ c κs. search needs) (λ c κs. search needs) returns word-requires (λ c κs. search needs)
+    (λ c κs. search needs) (λ c κs. search needs) returns-2 enter-after-requires returns-3)

@@ -29,7 +29,8 @@ real c = file-head _ _ (within _ (c .pre .0)) .real
 -- the record on the day of the file
 aged : (c : tie.After-age-all) →
     let s = c .before .before .before .before .before in
-    c .age-all .result ≡ recordOf (dayOf (now (s .args .file))) (kept (daysBetween (s .args .given) (dayOf (now (s .args .file)))) (entries (s .args .given)))
+    c .age-all .result ≡ recordOf (dayOf (now (s .args .file)))
+    (kept (daysBetween (s .args .given) (dayOf (now (s .args .file)))) (entries (s .args .given)))
 aged c =
     let s = c .before .before .before .before .before in
     let date = c .before .before .before .word .ensures in
@@ -71,7 +72,8 @@ returns c =
     let m = c .before .before in
     let s = m .before .before .before .before .before .before in
     c .refuse .ensures
-    ∙ too-many (s .args .given) (now (s .args .file)) (m .before .age-all .result) (m .mark-areas .result) (aged (m .before)) (came m) (c .before .if1 .taken)
+    ∙ too-many (s .args .given) (now (s .args .file)) (m .before .age-all .result) (m .mark-areas .result) (aged (m .before)) (came m)
+    (c .before .if1 .taken)
 
 returns-2 : tie.Need-returns-2
 returns-2 c =
@@ -81,4 +83,5 @@ returns-2 c =
 
 pub enter-after-spec : {M : Type 1} → statement M
 enter-after-spec =
-    tie.close (tie.spec word-requires word-requires-2 (λ c. search needs) gap-requires age-all-requires mark-areas-requires (λ c κs. search needs) returns returns-2)
+    tie.close (tie.spec word-requires word-requires-2 (λ c. search needs) gap-requires age-all-requires mark-areas-requires (λ c κs. search needs)
+    returns returns-2)

@@ -98,5 +98,5 @@ returns-2 c =
 
 pub mark-areas-spec : {M : Type 1} → statement M
 mark-areas-spec =
-    tie.close (tie.spec Inv-loop μ-loop loop-holds body-at-requires marked-requires (λ c. search needs) (λ c. search needs) word-requires mark-requires returns
-    (λ c. search needs) (λ c. search needs) loop-again returns-2)
+    tie.close (tie.spec Inv-loop μ-loop loop-holds body-at-requires marked-requires (λ c. search needs) (λ c. search needs) word-requires
+    mark-requires returns (λ c. search needs) (λ c. search needs) loop-again returns-2)

@@ -37,16 +37,5 @@ returns-2 c = c .before .loop .inv .1 ∙ ap (bitsBelow (c .before .before .befo
 
 pub count-spec : {M : Type 1} → statement M
 count-spec =
-    tie.close
-    (tie.spec
-    Inv-loop
-    μ-loop
-    returns
-    loop-holds
-    (λ c. search needs)
-    (λ c. search needs)
-    add-set
-    (λ c. search needs)
-    (λ c. search needs)
-    loop-again
-    returns-2)
+    tie.close (tie.spec Inv-loop μ-loop returns loop-holds (λ c. search needs) (λ c. search needs) add-set (λ c. search needs) (λ c. search needs)
+    loop-again returns-2)

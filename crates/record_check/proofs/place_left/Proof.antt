@@ -18,7 +18,12 @@ returns-3 c = simp (le-leb _ _ (c .before .before .before .before .if1 .left), l
 returns-4 : tie.Need-returns-4
 unfolding placeLeft
 returns-4 c =
-    simp (le-leb _ _ (c .before .before .before .before .before .if1 .left), le-leb _ _ (c .before .before .before .if2 .left), le-leb _ _ (c .before .if3 .left))
+    simp (
+      le-leb _ _ (c .before .before .before .before .before .if1 .left),
+      le-leb _ _ (c .before .before .before .if2 .left),
+      le-leb _ _
+          (c .before .if3 .left),
+    )
 
 pub place-left-spec : {M : Type 1} → statement M
 place-left-spec = tie.close (tie.spec returns returns-2 returns-3 returns-4)

@@ -40,7 +40,8 @@ returns c =
     let t = c .before in
     let s = t .before .before .before .before .before .before in
     let l = t .before .before .before .loop in
-    places-stop (s .args .end) (l .low) (entries (s .args .given)) (l .k) (place 0 0) _ (omega (arith, long s)) (l .inv .1) (sym (tested t) ∙ not-true _ (c .if1 .taken))
+    places-stop (s .args .end) (l .low) (entries (s .args .given)) (l .k) (place 0 0) _ (omega (arith, long s)) (l .inv .1)
+    (sym (tested t) ∙ not-true _ (c .if1 .taken))
 
 add-low : tie.Need-add-low Inv-loop μ-loop
 add-low c =
@@ -56,7 +57,8 @@ loop-again c =
     let r = s .args .given in
     let here = getD-take (r .held) (r .places) (l .k) (place 0 0) (omega arith) in (
       omega arith,
-      places-next (s .args .end) (l .low) (entries r) (l .k) (place 0 0) _ (omega (arith, long s)) (l .inv .1) (sym (tested t) ∙ not-false _ (c .before .if1 .left))
+      places-next (s .args .end) (l .low) (entries r) (l .k) (place 0 0) _ (omega (arith, long s)) (l .inv .1)
+          (sym (tested t) ∙ not-false _ (c .before .if1 .left))
           ∙ ap (λ p. placesLeft (s .args .end) (p .area + 1) (drop (l .k + 1) (entries r))) here,
     )
 
@@ -68,5 +70,5 @@ returns-2 c =
 
 pub places-left-spec : {M : Type 1} → statement M
 places-left-spec =
-    tie.close (tie.spec Inv-loop μ-loop (λ c. search needs) (λ c. (omega arith, refl)) (λ c. omega arith) (λ c. omega arith) (λ c κs. search needs) returns add-low
-    (λ c. omega arith) (λ c. omega arith) loop-again returns-2)
+    tie.close (tie.spec Inv-loop μ-loop (λ c. search needs) (λ c. (omega arith, refl)) (λ c. omega arith) (λ c. omega arith) (λ c κs. search needs)
+    returns add-low (λ c. omega arith) (λ c. omega arith) loop-again returns-2)

@@ -17,7 +17,8 @@ tested : (c : tie.After-places-left) →
     placesLeft (marksEnd (dayNumber (r .last))) 1 (entries r) ≡ c .places-left .result
 tested c =
     let r = c .before .before .before .before .before .before .before .args .given in
-    sym (c .places-left .ensures ∙ ap (λ end. placesLeft end 1 (entries r)) (c .before .marks-end .ensures ∙ ap marksEnd (c .before .before .last-number .ensures)))
+    sym (c .places-left .ensures ∙ ap (λ end. placesLeft end 1 (entries r))
+    (c .before .marks-end .ensures ∙ ap marksEnd (c .before .before .last-number .ensures)))
 
 returns : tie.Need-returns
 unfolding recordLeft
@@ -40,8 +41,15 @@ returns-4 : tie.Need-returns-4
 unfolding recordLeft
 returns-4 c =
     let e = c .before .before .before .before .before in
-    simp (le-leb _ _ (e .before .before .if1 .left), good-day e, tested (c .before .before), not-false (c .before .before .places-left .result) (c .before .if3 .left)) (c .unused-empty .ensures)
+    simp (
+      le-leb _ _ (e .before .before .if1 .left),
+      good-day e,
+      tested (c .before .before),
+      not-false (c .before .before .places-left .result)
+          (c .before .if3 .left),
+    ) (c .unused-empty .ensures)
 
 pub record-left-spec : {M : Type 1} → statement M
 record-left-spec =
-    tie.close (tie.spec (λ c. search needs) returns (λ c κs. search needs) returns-2 last-number-requires (λ c κs. search needs) (λ c κs. search needs) returns-3 (λ c κs. search needs) returns-4)
+    tie.close (tie.spec (λ c. search needs) returns (λ c κs. search needs) returns-2 last-number-requires (λ c κs. search needs)
+    (λ c κs. search needs) returns-3 (λ c κs. search needs) returns-4)

@@ -26,14 +26,18 @@ returns c =
     let t = c .before in
     let s = t .before .before .before .before .before .before in
     let l = t .before .before .before .loop in
-    unused-stop (s .args .given .places) (l .k) (place 0 0) _ (omega (arith, full s)) (l .inv .1) (sym (t .place-empty .ensures) ∙ not-true _ (c .if1 .taken))
+    unused-stop (s .args .given .places) (l .k) (place 0 0) _ (omega (arith, full s)) (l .inv .1)
+    (sym (t .place-empty .ensures) ∙ not-true _ (c .if1 .taken))
 
 loop-again : tie.Need-loop-again Inv-loop μ-loop
 loop-again c =
     let t = c .before in
     let s = t .before .before .before .before .before .before in
-    let l = t .before .before .before .loop in
-    (omega arith, unused-next (s .args .given .places) (l .k) (place 0 0) _ (omega (arith, full s)) (l .inv .1) (sym (t .place-empty .ensures) ∙ not-false _ (c .if1 .left)))
+    let l = t .before .before .before .loop in (
+      omega arith,
+      unused-next (s .args .given .places) (l .k) (place 0 0) _ (omega (arith, full s)) (l .inv .1)
+          (sym (t .place-empty .ensures) ∙ not-false _ (c .if1 .left)),
+    )
 
 returns-2 : tie.Need-returns-2 Inv-loop μ-loop
 returns-2 c =
@@ -43,5 +47,5 @@ returns-2 c =
 
 pub unused-empty-spec : {M : Type 1} → statement M
 unused-empty-spec =
-    tie.close (tie.spec Inv-loop μ-loop (λ c. search needs) (λ c. (omega (arith, c .before .before .pre), refl)) (λ c. omega arith) (λ c. omega arith) (λ c κs. search needs) returns
-    (λ c. omega arith) (λ c. omega arith) loop-again returns-2)
+    tie.close (tie.spec Inv-loop μ-loop (λ c. search needs) (λ c. (omega (arith, c .before .before .pre), refl)) (λ c. omega arith)
+    (λ c. omega arith) (λ c κs. search needs) returns (λ c. omega arith) (λ c. omega arith) loop-again returns-2)

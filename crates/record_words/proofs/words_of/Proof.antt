@@ -33,7 +33,8 @@ loop-again c =
       stay 0 (λ e. omega arith) (λ e. omega arith) ∙ l .inv .2,
       stay 1 (λ e. omega arith) (λ e. omega arith) ∙ l .inv .3,
       below-more (λ j. placeIn (written (l .words) (l .k) (p .area) (p .marks) inside) j ≡ getD places j (place 0 0)) (l .k)
-          (λ j h. ap₂ place (stay (2 + 2 * j) (λ e. omega arith) (λ e. omega arith)) (stay (3 + 2 * j) (λ e. omega arith) (λ e. omega arith)) ∙ l .inv .4 j h)
+          (λ j h. ap₂ place (stay (2 + 2 * j) (λ e. omega arith) (λ e. omega arith)) (stay (3 + 2 * j) (λ e. omega arith) (λ e. omega arith))
+          ∙ l .inv .4 j h)
           (place-there (l .words) (l .k) (p .area) (p .marks) inside),
     )
 
@@ -44,5 +45,6 @@ returns c =
 
 pub words-of-spec : {M : Type 1} → statement M
 words-of-spec =
-    tie.close (tie.spec Inv-loop μ-loop (λ c. omega arith) (λ c. omega arith) loop-holds (λ c. omega arith) (λ c. omega arith) (λ c. omega arith) (λ c. omega arith) (λ c. omega arith) (λ c. omega arith)
-    (λ c. omega arith) (λ c. omega arith) (λ c. omega arith) (λ c. omega arith) (λ c. omega arith) (λ c. omega arith) loop-again returns)
+    tie.close (tie.spec Inv-loop μ-loop (λ c. omega arith) (λ c. omega arith) loop-holds (λ c. omega arith) (λ c. omega arith) (λ c. omega arith)
+    (λ c. omega arith) (λ c. omega arith) (λ c. omega arith) (λ c. omega arith) (λ c. omega arith) (λ c. omega arith) (λ c. omega arith)
+    (λ c. omega arith) (λ c. omega arith) loop-again returns)

@@ -50,7 +50,8 @@ loop-again c =
       below-more (λ j. listed (set (l .days) (l .k) (c .count .result)) j ≡ of j) (l .k)
           (λ j h. getD-set-other (l .days) (l .k) j _ 0 (λ e. omega arith) ∙ l .inv .2 j h)
           (getD-set-same (l .days) (l .k) _ 0 inside ∙ c .count .ensures
-          ∙ ap (λ m. counted m (s .args .g)) (c .before .marks-of .ensures ∙ ap (λ a. marksOf a (entries (s .args .given))) (c .before .before .word .ensures))),
+          ∙ ap (λ m. counted m (s .args .g)) (c .before .marks-of .ensures
+          ∙ ap (λ a. marksOf a (entries (s .args .given))) (c .before .before .word .ensures))),
     )
 
 returns : tie.Need-returns Inv-loop μ-loop
@@ -58,5 +59,5 @@ returns c = λ k h. c .before .loop .inv .2 k (omega (arith, c .before .before .
 
 pub recorded-days-spec : {M : Type 1} → statement M
 recorded-days-spec =
-    tie.close (tie.spec Inv-loop μ-loop loop-holds (λ c. search needs) (λ c. search needs) word-requires marks-of-requires (λ c κs. search needs) (λ c. search needs)
-    array-write-days (λ c. search needs) (λ c. search needs) loop-again returns)
+    tie.close (tie.spec Inv-loop μ-loop loop-holds (λ c. search needs) (λ c. search needs) word-requires marks-of-requires (λ c κs. search needs)
+    (λ c. search needs) array-write-days (λ c. search needs) (λ c. search needs) loop-again returns)

@@ -32,7 +32,8 @@ days-are c = λ k h.
     let s = c .before .before .before .before .before in
     let r = s .args .given in
     c .recorded-days .ensures k h
-    ∙ ap (counted (marksOf (numberAt (now (s .args .file)) k) (entries r))) (c .before .gap .ensures ∙ ap (daysBetween r) (c .before .before .before .word .ensures))
+    ∙ ap (counted (marksOf (numberAt (now (s .args .file)) k) (entries r)))
+    (c .before .gap .ensures ∙ ap (daysBetween r) (c .before .before .before .word .ensures))
 
 word-requires : tie.Need-word-requires
 word-requires c κs = let r = sound (c .before) .room in omega arith
@@ -68,4 +69,5 @@ returns c =
 
 pub settle-after-spec : {M : Type 1} → statement M
 settle-after-spec =
-    tie.close (tie.spec word-requires word-requires-2 (λ c. search needs) gap-requires recorded-days-requires (λ c. search needs) settle-accepted-requires (λ c. search needs) returns)
+    tie.close (tie.spec word-requires word-requires-2 (λ c. search needs) gap-requires recorded-days-requires (λ c. search needs)
+    settle-accepted-requires (λ c. search needs) returns)

@@ -84,4 +84,5 @@ returns-3 c =
 
 pub settle-recorded-spec : {M : Type 1} → statement M
 settle-recorded-spec =
-    tie.close (tie.spec (λ c κs. search needs) (λ c κs. search needs) returns word-requires (λ c κs. search needs) (λ c κs. search needs) returns-2 settle-after-requires (λ c. search needs) returns-3)
+    tie.close (tie.spec (λ c κs. search needs) (λ c κs. search needs) returns word-requires (λ c κs. search needs) (λ c κs. search needs) returns-2
+    settle-after-requires (λ c. search needs) returns-3)

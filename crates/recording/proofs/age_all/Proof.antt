@@ -45,7 +45,8 @@ loop-again c =
     let m = c .before .age .result in (
       omega arith,
       ⊎-elim
-          (λ w. age-stays (s .args .g) (s .args .date) ps (l .i) m (place 0 0) (l .out) inside (l .inv .1) (c .before .age .ensures) (c .if1 .out) (w .0 .taken) (w .2 ∙ w .1 .ensures) (omega arith))
+          (λ w. age-stays (s .args .g) (s .args .date) ps (l .i) m (place 0 0) (l .out) inside (l .inv .1) (c .before .age .ensures) (c .if1 .out)
+          (w .0 .taken) (w .2 ∙ w .1 .ensures) (omega arith))
           (λ w. w .1 ∙ age-gone (s .args .g) (s .args .date) ps (l .i) m (place 0 0) (l .out) inside (l .inv .1) (c .before .age .ensures) (w .0 .left))
           (c .if1 .came),
     )
@@ -59,18 +60,5 @@ returns c =
 
 pub age-all-spec : {M : Type 1} → statement M
 age-all-spec =
-    tie.close
-    (tie.spec
-    Inv-loop
-    μ-loop
-    (λ c. search needs)
-    (λ c κs. search needs)
-    loop-holds
-    mul-p
-    array-copy-out-p
-    (λ c κs. search needs)
-    push-requires
-    (λ c. search needs)
-    (λ c. search needs)
-    loop-again
-    returns)
+    tie.close (tie.spec Inv-loop μ-loop (λ c. search needs) (λ c κs. search needs) loop-holds mul-p array-copy-out-p (λ c κs. search needs)
+    push-requires (λ c. search needs) (λ c. search needs) loop-again returns)

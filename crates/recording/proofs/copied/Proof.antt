@@ -35,7 +35,14 @@ push-requires c κs =
     let s = c .before .before .before .before in
     let l = c .before .before .loop in
     let part = take (l .i - s .args .from) (drop (s .args .from) (s .args .given .places)) in
-    omega (arith, ap (λ r. r .held) (l .inv .2), length-append (entries (s .args .onto)) part, onto-most s, length-take (l .i - s .args .from) (drop (s .args .from) (s .args .given .places)))
+    omega (
+      arith,
+      ap (λ r. r .held) (l .inv .2),
+      length-append (entries (s .args .onto)) part,
+      onto-most s,
+      length-take (l .i - s .args .from)
+          (drop (s .args .from) (s .args .given .places)),
+    )
 
 loop-again : tie.Need-loop-again Inv-loop μ-loop
 loop-again c =
@@ -43,7 +50,8 @@ loop-again c =
     let l = c .before .before .before .loop in (
       omega arith,
       omega arith,
-      copy-step (s .args .onto .last) (s .args .from) (l .i) (entries (s .args .onto)) (s .args .given .places) (place 0 0) (omega arith) (omega (arith, full s))
+      copy-step (s .args .onto .last) (s .args .from) (l .i) (entries (s .args .onto)) (s .args .given .places) (place 0 0) (omega arith)
+          (omega (arith, full s))
           (l .out) (c .push .result) (omega (arith, onto-most s)) (l .inv .2) (c .push .ensures),
     )
 
@@ -56,15 +64,5 @@ returns c =
 
 pub copied-spec : {M : Type 1} → statement M
 copied-spec =
-    tie.close
-    (tie.spec
-    Inv-loop
-    μ-loop
-    loop-holds
-    (λ c. omega arith)
-    (λ c. omega arith)
-    push-requires
-    (λ c. omega arith)
-    (λ c. omega arith)
-    loop-again
-    returns)
+    tie.close (tie.spec Inv-loop μ-loop loop-holds (λ c. omega arith) (λ c. omega arith) push-requires (λ c. omega arith) (λ c. omega arith)
+    loop-again returns)

@@ -39,8 +39,11 @@ loop-again c =
     let s = c .before .before .before .before .before .before .before in
     let l = c .before .before .before .before .loop in
     let r = s .args .given in
-    let here = getD-take (r .held) (r .places) (l .k) (place 0 0) (omega arith) in
-    (omega arith, found-next (s .args .area) (entries r) (l .k) (place 0 0) (omega (arith, long s)) (l .inv .1) (λ e. c .if1 .left (sym (ap (λ p. p .area) here) ∙ e)))
+    let here = getD-take (r .held) (r .places) (l .k) (place 0 0) (omega arith) in (
+      omega arith,
+      found-next (s .args .area) (entries r) (l .k) (place 0 0) (omega (arith, long s)) (l .inv .1)
+          (λ e. c .if1 .left (sym (ap (λ p. p .area) here) ∙ e)),
+    )
 
 returns-2 : tie.Need-returns-2 Inv-loop μ-loop
 returns-2 c =
@@ -50,4 +53,5 @@ returns-2 c =
 
 pub marks-of-spec : {M : Type 1} → statement M
 marks-of-spec =
-    tie.close (tie.spec Inv-loop μ-loop (λ c. search needs) loop-holds (λ c. omega arith) (λ c. omega arith) returns (λ c. omega arith) (λ c. omega arith) loop-again returns-2)
+    tie.close (tie.spec Inv-loop μ-loop (λ c. search needs) loop-holds (λ c. omega arith) (λ c. omega arith) returns (λ c. omega arith)
+    (λ c. omega arith) loop-again returns-2)

@@ -31,14 +31,18 @@ returns c =
     let s = c .before .before .before .before .before .before .before in
     let l = c .before .before .before .before .loop in
     let r = s .args .given in
-    sym (lead-stop (s .args .area) (entries r) (l .k) (place 0 0) (l .inv .1) (omega (arith, long s)) (rw (getD-take (r .held) (r .places) (l .k) (place 0 0) (omega arith)) (c .if1 .taken)))
+    sym (lead-stop (s .args .area) (entries r) (l .k) (place 0 0) (l .inv .1) (omega (arith, long s))
+    (rw (getD-take (r .held) (r .places) (l .k) (place 0 0) (omega arith)) (c .if1 .taken)))
 
 loop-again : tie.Need-loop-again Inv-loop μ-loop
 loop-again c =
     let s = c .before .before .before .before .before .before .before in
     let l = c .before .before .before .before .loop in
-    let r = s .args .given in
-    (omega arith, lead-next (s .args .area) (entries r) (l .k) (place 0 0) (l .inv .1) (omega (arith, long s)) (rw (getD-take (r .held) (r .places) (l .k) (place 0 0) (omega arith)) (c .if1 .left)))
+    let r = s .args .given in (
+      omega arith,
+      lead-next (s .args .area) (entries r) (l .k) (place 0 0) (l .inv .1) (omega (arith, long s))
+          (rw (getD-take (r .held) (r .places) (l .k) (place 0 0) (omega arith)) (c .if1 .left)),
+    )
 
 returns-2 : tie.Need-returns-2 Inv-loop μ-loop
 returns-2 c =
@@ -48,16 +52,5 @@ returns-2 c =
 
 pub place-of-spec : {M : Type 1} → statement M
 place-of-spec =
-    tie.close
-    (tie.spec
-    Inv-loop
-    μ-loop
-    (λ c. search needs)
-    loop-holds
-    (λ c. omega arith)
-    (λ c. omega arith)
-    returns
-    (λ c. omega arith)
-    (λ c. omega arith)
-    loop-again
-    returns-2)
+    tie.close (tie.spec Inv-loop μ-loop (λ c. search needs) loop-holds (λ c. omega arith) (λ c. omega arith) returns (λ c. omega arith)
+    (λ c. omega arith) loop-again returns-2)

@@ -7,7 +7,7 @@ use native.Mathlib.Omega.{arith}
 use lib.IntN.{ℤ}
 use lib.ListN.{length}
 use Rattle.verdict.specs.Verdict.{numberOf}
-use Rattle.verdict.proofs.First.{scan-same}
+use Rattle.verdict.proofs.First.{scan-same, or-next}
 use Rattle.contents.specs.File.{areasOf, peakOf, numberAt, startAt, bodyAt}
 use Rattle.dayfile.specs.Check.{checkOf}
 use Rattle.statement.specs.Block.{block}
@@ -17,7 +17,6 @@ use Rattle.settlement.specs.Shown.{statementLeftBy}
 use Rattle.settlement.proofs.Accepted.{rule-same, statement-same}
 use Rattle.comparisons.specs.Days.{ByNumberAndDays}
 use Rattle.comparisons.proofs.Alike.{Alike, coordinators, days, block-same, hours-rule-same}
-use Rattle.theorems.proofs.FirstIndex.{passes}
 
 pub record AlikeFiles (file file′ : List ℕ) : Type 0 where
   pub areas : areasOf file ≡ areasOf file′
@@ -71,9 +70,9 @@ module _ (file file′ : List ℕ) (alike : AlikeFiles file file′) where
     pub settle-same : (room : ℕ) → settleBy d file room ≡ settleBy d file′ room
     unfolding settleWith
     settle-same room =
-        passes (checkOf file) _ z
+        or-next (checkOf file) _ z
         ∙ accepted-same (daysBy d file) room ∙ rule-same (daysBy d file) (daysBy d file′) file′ d-same room
-        ∙ sym (passes (checkOf file′) _ z′)
+        ∙ sym (or-next (checkOf file′) _ z′)
 
     blocks-too : statementTo (daysBy d file) file (areasOf file) ≡ statementTo (daysBy d file′) file′ (areasOf file′)
     blocks-too =

@@ -3,7 +3,7 @@ use recording::Marking;
 use recording::Record;
 use verdict::Verdict;
 ghost use mathlib.Core.Path.{_≡_};
-ghost use Prim.Native.Nat.{_≤_, _^_};
+ghost use Prim.Native.Nat.{_^_};
 ghost use Rattle.limits.specs.Ranges.{recordedDays};
 ghost use Rattle.verdict.specs.Verdict.{numberOf};
 ghost use Rattle.contents.specs.File.{dayOf, areasOf};

@@ -62,18 +62,18 @@ module _ (deficiency : ℕ) (small : deficiency ≤ mostDeficiency) where
 
 -- ---- the bodies
 
-pub failing-tier : tierAt failingBody 0 ≡ 3
+failing-tier : tierAt failingBody 0 ≡ 3
 failing-tier = tier-first shortage (omega arith)
 
-pub failing-marked : markedIn failingBody ≡ true
+failing-marked : markedIn failingBody ≡ true
 failing-marked =
     marked-so failingBody (record { flag = flag-there shortage (omega arith); hour = 0; inside = omega arith; tier = omega (arith, failing-tier) })
 
-pub quiet-tier : (h : ℕ) → tierAt quietBody h ≡ 0
+quiet-tier : (h : ℕ) → tierAt quietBody h ≡ 0
 quiet-tier zero = tier-first 0 (omega arith)
 quiet-tier (suc h) = tier-later 0 (omega arith) (suc h) (omega arith)
 
-pub quiet-unmarked : markedIn quietBody ≡ false
+quiet-unmarked : markedIn quietBody ≡ false
 quiet-unmarked = not-marked quietBody (λ h p. omega (arith, quiet-tier h))
 
 -- ---- the files

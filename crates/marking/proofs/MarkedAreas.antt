@@ -90,7 +90,7 @@ module _ (file : List ℕ) where
   none-marked k zero n e none = refl
   none-marked k (suc m) n e none = rw (none k (omega arith), none-marked (suc k) m n (omega arith) none)
 
-  pub from-append : (k m n : ℕ) → markedFrom file k (m + n) ≡ markedFrom file k m ++ markedFrom file (k + m) n
+  from-append : (k m n : ℕ) → markedFrom file k (m + n) ≡ markedFrom file k m ++ markedFrom file (k + m) n
   unfolding markedFrom
   from-append k zero n = rw (zero-add n, add-zero k)
   from-append k (suc m) n =

@@ -56,7 +56,7 @@ lower x n = rw (pow-suc, mod-mul x {m = 2 ^ n} {c = 2} (one-le-pow n 2 (omega ar
 lowest : (x n : ℕ) → x % 2 ^ suc n % 2 ≡ x % 2
 lowest x n = rw (pow-suc, mod-mul x {m = 2 ^ n} {c = 2} (one-le-pow n 2 (omega arith)) (omega arith)) (omega arith)
 
-pub low-bits : (x n i : ℕ) → i < n → bitAt (x % 2 ^ n) i ≡ bitAt x i
+low-bits : (x n i : ℕ) → i < n → bitAt (x % 2 ^ n) i ≡ bitAt x i
 low-bits x zero i h = absurd (omega arith)
 low-bits x (suc n) zero h = bit-zero (x % 2 ^ suc n) ∙ lowest x n ∙ sym (bit-zero x)
 low-bits x (suc n) (suc i) h = bit-suc (x % 2 ^ suc n) i ∙ ap (λ y. bitAt y i) (lower x n) ∙ low-bits (x / 2) n i (omega arith) ∙ sym (bit-suc x i)
@@ -114,19 +114,6 @@ module _ (marks g : ℕ) where
   pub aged-even : 1 ≤ g → aged marks g % 2 ≡ 0
   aged-even h = sym (bit-zero (aged marks g)) ∙ aged-bit-between 0 (omega arith) (omega arith)
 
-  -- ---- a day that is marked: 1 is added to what the days before left
-
-  pub marked-small : 1 ≤ g → aged marks g + 1 < 2 ^ recordedDays
-  marked-small h = omega (arith, aged-small, aged-even h)
-
-  pub marked-day : 1 ≤ g → bitAt (aged marks g + 1) 0 ≡ 1
-  marked-day h = rw bit-zero (omega (arith, aged-even h))
-
-  pub marked-before : (i : ℕ) → 1 ≤ g → bitAt (aged marks g + 1) (suc i) ≡ bitAt (aged marks g) (suc i)
-  marked-before i h =
-      let e : (aged marks g + 1) / 2 ≡ aged marks g / 2 = omega (arith, aged-even h) in
-      bit-suc (aged marks g + 1) i ∙ ap (λ x. bitAt x i) e ∙ sym (bit-suc (aged marks g) i)
-
 pub no-bit : (i : ℕ) → bitAt 0 i ≡ 0
 unfolding bitAt
 no-bit i = rw zero-div
@@ -140,21 +127,6 @@ pub aged-gone : (marks g : ℕ) → recordedDays ≤ g → aged marks g ≡ 0
 aged-gone marks g h =
     by-bits recordedDays (aged marks g) 0 (aged-small marks g) (omega arith)
     (λ i l. aged-bit-between marks g i (omega arith) l ∙ sym (no-bit i))
-
--- g days and then h days are g + h days
-pub aged-twice : (marks g h : ℕ) → aged (aged marks g) h ≡ aged marks (g + h)
-aged-twice marks g h = by-bits recordedDays _ _ (aged-small (aged marks g) h) (aged-small marks (g + h)) each
-  where
-    each : (i : ℕ) → i < recordedDays → bitAt (aged (aged marks g) h) i ≡ bitAt (aged marks (g + h)) i
-    each i l =
-        dite (decLt i h)
-        (λ a. aged-bit-between (aged marks g) h i a l ∙ sym (aged-bit-between marks (g + h) i (omega (arith, a)) l))
-        (λ a. aged-bit (aged marks g) h i (omega (arith, a)) l
-        ∙ dite (decLt (i - h) g)
-        (λ b. aged-bit-between marks g (i - h) b (omega arith) ∙ sym (aged-bit-between marks (g + h) i (omega (arith, a, b)) l))
-        (λ b. aged-bit marks g (i - h) (omega (arith, b)) (omega arith)
-        ∙ ap (bitAt marks) (omega (arith, a, b))
-        ∙ sym (aged-bit marks (g + h) i (omega (arith, a, b)) l)))
 
 -- ---- one turn of the two loops
 

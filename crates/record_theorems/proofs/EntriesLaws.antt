@@ -22,7 +22,7 @@ use Rattle.recording.proofs.InPlace.{marked-below, marked-same, marked-above}
 
 -- ---- an area's marks in a list
 
-rising-from : (m n : ℕ) (l : List Place) → m ≤ n → Rising n l → Rising m l
+pub rising-from : (m n : ℕ) (l : List Place) → m ≤ n → Rising n l → Rising m l
 rising-from m n [] h r = tt
 rising-from m n (p ∷ l) h r = (omega (arith, r .0), r .1)
 
@@ -42,7 +42,7 @@ module _ (g : ℕ) where
       (λ e. rw (kept-out g p l e) (rising-from n (p .area + 1) (kept g l) (omega (arith, r .0)) (rising-kept (p .area + 1) l (r .1))))
       (λ e. rw (kept-in g p l e) (r .0, rising-kept (p .area + 1) l (r .1)))
 
-  pub marks-kept : (b n : ℕ) (l : List Place) → Rising n l → marksOf b (kept g l) ≡ aged (marksOf b l) g
+  marks-kept : (b n : ℕ) (l : List Place) → Rising n l → marksOf b (kept g l) ≡ aged (marksOf b l) g
   unfolding kept marksOf
   marks-kept b n [] r = sym (aged-none g)
   marks-kept b n (p ∷ l) r =
@@ -68,7 +68,7 @@ module _ (a : ℕ) where
       (λ e. rw (marked-same a p l e) (h, rw (ap (λ x. x + 1) e) at (r .1)))
       (λ e. let above : a < p .area = omega (arith, b, e) in rw (marked-above a p l above) (h, (omega arith, r .1))))
 
-  pub marks-marked : (b n : ℕ) (l : List Place) → Rising n l → marksOf b (marked a l) ≡ marksOf b l + cond (eqb a b) 1 0
+  marks-marked : (b n : ℕ) (l : List Place) → Rising n l → marksOf b (marked a l) ≡ marksOf b l + cond (eqb a b) 1 0
   unfolding marked marksOf
   marks-marked b n [] r = sym (zero-add _)
   marks-marked b n (p ∷ l) r =
@@ -110,12 +110,12 @@ one-most b (a ∷ areas) = by (eqb a b) (one-most b areas)
     by true h = omega arith
     by false h = h
 
-pub rising-all : (areas : List ℕ) (l : List Place) → Rising 0 l → Rising 0 (markedAll areas l)
+rising-all : (areas : List ℕ) (l : List Place) → Rising 0 l → Rising 0 (markedAll areas l)
 unfolding markedAll
 rising-all [] l r = r
 rising-all (a ∷ areas) l r = rising-all areas (marked a l) (rising-marked a 0 l r (omega arith))
 
-pub marks-all : (b n : ℕ) (areas : List ℕ) (l : List Place) → RisingNumbers n areas → Rising 0 l
+marks-all : (b n : ℕ) (areas : List ℕ) (l : List Place) → RisingNumbers n areas → Rising 0 l
     → marksOf b (markedAll areas l) ≡ marksOf b l + oneIf b areas
 unfolding markedAll oneIf
 marks-all b n [] l o r = sym (add-zero _)
@@ -204,7 +204,7 @@ module _ (area : ℕ) where
   -- ---- d
 
   -- the marked days among the n days before a day
-  pub days-before : (es : List Entry) (day g n : ℕ) → InOrder es → lastOf es + g ≡ day → 1 ≤ g → n ≤ recordedDays
+  days-before : (es : List Entry) (day g n : ℕ) → InOrder es → lastOf es + g ≡ day → 1 ≤ g → n ≤ recordedDays
       → markedDays es day area n ≡ bitsBelow (marksOf area (heldAfter es)) (n + 1 - g)
   unfolding markedDays bitsBelow
   days-before es day g zero o h k l = let e : 0 + 1 - g ≡ 0 = omega arith in rw e

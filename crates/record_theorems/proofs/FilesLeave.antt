@@ -32,7 +32,7 @@ use Rattle.record_theorems.specs.Entries.{lastOf, heldAfter, Rising, Bef
 use Rattle.record_theorems.specs.Left.{Left, AreasKnown, MayBeLeft, Fitting}
 use Rattle.record_theorems.specs.Files.{afterFiles, AllEntered, lastDay, entriesOf}
 use Rattle.record_theorems.proofs.EntriesLaws.{rising-kept, rising-marked}
-use Rattle.record_theorems.proofs.LeftByEntries.{left-by-entries}
+use Rattle.record_theorems.proofs.LeftByEntries.{numbers-from, left-by-entries}
 use Rattle.record_theorems.proofs.Passed.{Passes}
 
 -- ---- the marked areas of an accepted file
@@ -41,13 +41,9 @@ abbrev NumbersKnown : List ℕ → Type 0
 NumbersKnown [] = Unit {0}
 NumbersKnown (a ∷ areas) = (a ≤ largestNumber) × NumbersKnown areas
 
-rising-from : (m n : ℕ) (areas : List ℕ) → m ≤ n → RisingNumbers n areas → RisingNumbers m areas
-rising-from m n [] h r = tt
-rising-from m n (a ∷ areas) h r = (omega (arith, r .0), r .1)
-
 rising-if : (t : Bool) (low a : ℕ) (areas : List ℕ) → low ≤ a → RisingNumbers (a + 1) areas → RisingNumbers low (cond t (a ∷ areas) areas)
 rising-if true low a areas h r = (h, r)
-rising-if false low a areas h r = rising-from low (a + 1) areas (omega arith) r
+rising-if false low a areas h r = numbers-from low (a + 1) areas (omega arith) r
 
 known-if : (t : Bool) (a : ℕ) (areas : List ℕ) → a ≤ largestNumber → NumbersKnown areas → NumbersKnown (cond t (a ∷ areas) areas)
 known-if true a areas h s = (h, s)
@@ -161,7 +157,7 @@ files-leave (file ∷ files) a =
     record {
       is = entry-leaves r file (a .0) ∙ ap (recordOf (dayOf file)) next;
       order = (
-        rising-from 0 1 (markedAreas file) (omega arith) rises,
+        numbers-from 0 1 (markedAreas file) (omega arith) rises,
         before files (dayOf file) (a .1) (rw (k .is) at (record-before r (dayOf file) (t .judged) .after)),
         k .order,
       );

@@ -47,7 +47,7 @@ left-by-entries es o f =
 
 -- ---- what may be left, entries leave
 
-numbers-from : (m n : ℕ) (areas : List ℕ) → m ≤ n → RisingNumbers n areas → RisingNumbers m areas
+pub numbers-from : (m n : ℕ) (areas : List ℕ) → m ≤ n → RisingNumbers n areas → RisingNumbers m areas
 numbers-from m n [] h r = tt
 numbers-from m n (a ∷ areas) h r = (omega (arith, r .0), r .1)
 

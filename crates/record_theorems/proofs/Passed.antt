@@ -27,7 +27,7 @@ use Rattle.record_check.proofs.Left.{PlaceKept, place-kept, Kept, record-kept}
 use Rattle.record_theorems.specs.Entries.{Rising, AllMarked}
 use Rattle.record_theorems.specs.Left.{AreasKnown, MayBeLeft}
 use Rattle.record_theorems.specs.Files.{emptyRecord}
-use Rattle.record_theorems.proofs.EntriesLaws.{absent}
+use Rattle.record_theorems.proofs.EntriesLaws.{rising-from, absent}
 
 -- ---- the areas held
 
@@ -119,7 +119,7 @@ may-of r k some few =
       real = k .last .real some;
       left = record {
         few = few;
-        rising = from-zero (entries r) (t .rises);
+        rising = rising-from 0 1 (entries r) (omega arith) (t .rises);
         marked = t .marks;
         within = λ area. omega (arith, t .small area);
         begun = λ area i h q. high-clear (marksOf area (entries r)) n i (t .small area) (omega arith);
@@ -127,10 +127,6 @@ may-of r k some few =
       from-one = t .rises;
       known = t .known;
     }
-  where
-    from-zero : (l : List Place) → Rising 1 l → Rising 0 l
-    from-zero [] q = tt
-    from-zero (p ∷ l) q = (omega arith, q .1)
 
 pub test-says : (r : Record) → length (r .places) ≡ mostHeld → recordLeft r ≡ true → Passes r
 test-says r whole t =
@@ -144,7 +140,7 @@ empty-left : recordLeft emptyRecord ≡ true
 unfolding recordLeft placesLeft
 empty-left = unused-none (mostHeld - 0)
 
-pub may-pass : (last : ℕ) (l : List Place) → MayBeLeft last l → recordLeft (recordOf last l) ≡ true
+may-pass : (last : ℕ) (l : List Place) → MayBeLeft last l → recordLeft (recordOf last l) ≡ true
 unfolding recordLeft
 may-pass last l may =
     let day = dayNumber last in

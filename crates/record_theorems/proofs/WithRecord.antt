@@ -28,7 +28,7 @@ use Rattle.theorems.proofs.WithinACent.{ChargesWithinACent, every-charge-within
 use Rattle.theorems.proofs.Turned.{StatementsTurned, statement-turned-by}
 use Rattle.comparisons.specs.Days.{ByNumberAndDays}
 use Rattle.comparisons.specs.Alone.{AloneFile}
-use Rattle.comparisons.proofs.Merged.{SettledMerged, settled-too-by, MergedShown, merged-shown-by}
+use Rattle.comparisons.proofs.Merged.{SettledMerged, settled-too-by, MergedShown, merged-shown-by, MergeSettled, merge-settled-by}
 use Rattle.comparisons.proofs.Alone.{AloneBlock, alone-block-by, AloneSettled, alone-settled-by, AloneShows, alone-shows-by}
 use Rattle.comparisons.proofs.MissingPrices.{StatementsUnchanged, statement-unchanged-by, AnyQuantity, any-quantity-by}
 use Rattle.record_theorems.specs.WithRecord.{statementLeftRecorded, SettledByRecord}
@@ -40,7 +40,7 @@ module _ (r : Record) (file : List ℕ) (room : ℕ) where
   unfolding settleRecorded settleWith
   same-answer z = or-same (checkOf file) _ _ (λ q. or-next (recordRule r (dayOf file)) _ z)
 
-  pub record-judged : numberOf (settleRecorded r file room) ≡ 0 → numberOf (recordRule r (dayOf file)) ≡ 0
+  record-judged : numberOf (settleRecorded r file room) ≡ 0 → numberOf (recordRule r (dayOf file)) ≡ 0
   unfolding settleRecorded
   record-judged z = or-first (recordRule r (dayOf file)) _ (or-second (checkOf file) _ z)
 
@@ -97,6 +97,9 @@ module _ (r : Record) (date : ℕ) where
 
   pub recorded-merged-too : SettledMerged d
   recorded-merged-too = settled-too-by d record-by
+
+  pub recorded-merge-settled : MergeSettled d
+  recorded-merge-settled = merge-settled-by d record-by
 
   pub recorded-alone-block : AloneBlock d
   recorded-alone-block = alone-block-by d

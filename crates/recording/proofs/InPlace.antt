@@ -22,7 +22,7 @@ use Rattle.recording.proofs.Lists.{push-list}
 pub entries-of : (last : ℕ) (l : List Place) → entries (recordOf last l) ≡ l
 entries-of last l = take-append-seam l (replicate (mostHeld - length l) (place 0 0))
 
-pub tail-of : (n j : ℕ) (ps : List Place) → take (n - j) (drop j ps) ≡ drop j (take n ps)
+tail-of : (n j : ℕ) (ps : List Place) → take (n - j) (drop j ps) ≡ drop j (take n ps)
 tail-of n zero ps = rw sub-zero
 tail-of zero (suc j) ps = let e : 0 - suc j ≡ 0 = omega arith in rw e
 tail-of (suc n) (suc j) [] = take-nil (suc n - suc j)

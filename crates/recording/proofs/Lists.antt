@@ -47,7 +47,7 @@ module _ (g : ℕ) where
       by true e = e
       by false e = ap (λ l. place (p .area) (aged (p .marks) g) ∷ l) e
 
-  pub kept-next : (l : List Place) (i : ℕ) (d : Place) → i < length l → kept g (take (i + 1) l) ≡ kept g (take i l) ++ kept g (getD l i d ∷ [])
+  kept-next : (l : List Place) (i : ℕ) (d : Place) → i < length l → kept g (take (i + 1) l) ≡ kept g (take i l) ++ kept g (getD l i d ∷ [])
   kept-next l i d h = rw (add-one, take-suc l i d h) (kept-append (take i l) (getD l i d ∷ []))
 
   pub kept-out : (p : Place) (l : List Place) → aged (p .marks) g ≡ 0 → kept g (p ∷ l) ≡ kept g l

@@ -2,7 +2,7 @@
 // marked in it.
 ghost use mathlib.Core.Path.{_≡_};
 ghost use mathlib.Core.List.{[], _++_};
-ghost use lib.ListN.{length, take, drop};
+ghost use lib.ListN.{take, drop};
 ghost use Prim.Native.Nat.{_+_, _-_, _≤_, _<_};
 ghost use Rattle.limits.specs.Editions.{mostHeld};
 ghost use Rattle.recording.specs.Record.{place, entries, recordOf, pushed, kept, leading, marked, marksOf, Sound, answered};

@@ -1,14 +1,14 @@
 -- A scan that refuses answers what the first index answers whose part refuses; and such an index, where there is one, decides the scan.
 use Prim.Native.Nat.{ℕ, zero, suc, _+_, _≤_, _<_}
 use mathlib.Core.Logic.{⊎-elim, dite}
-use mathlib.Core.Path.{_≡_, refl, sym, ap, _∙_}
+use mathlib.Core.Path.{_≡_, refl, ap, _∙_}
 use native.Mathlib.Decide.{ℕ-discrete}
 use native.Mathlib.Nat.{eq-or-lt-of-le}
 use native.Mathlib.Omega.{arith}
 use Rattle.verdict.specs.declared.Verdict.{Verdict}
 use Rattle.verdict.specs.Verdict.{numberOf}
-use Rattle.verdict.specs.First.{_orElse_, scan}
-use Rattle.verdict.proofs.First.{seq-stop, seq-next}
+use Rattle.verdict.specs.First.{scan}
+use Rattle.verdict.proofs.First.{or-stop, or-next}
 use Rattle.theorems.specs.Refused.{Refuses}
 
 -- of the parts k, k + 1, .., n of them, part i is the first that refuses
@@ -18,21 +18,15 @@ pub record First (part : ℕ → Verdict) (k n i : ℕ) : Type 0 where
   pub refuses : Refuses (part i)
   pub before : (j : ℕ) → k ≤ j → j < i → numberOf (part j) ≡ 0
 
-pub stops : (first second : Verdict) → Refuses first → (first orElse second) ≡ first
-stops first second r = sym (seq-stop _ first second first _ refl refl refl r)
-
-pub passes : (first second : Verdict) → numberOf first ≡ 0 → (first orElse second) ≡ second
-passes first second z = seq-next _ first second first _ refl refl refl z
-
 -- a first index decides
 pub first-decides : (part : ℕ → Verdict) (k n i : ℕ) → First part k n i → scan part k n ≡ part i
 unfolding scan
 first-decides part k zero i f = absurd (omega (arith, f .from, f .below))
 first-decides part k (suc n) i f =
     ⊎-elim
-    (λ (e : k ≡ i). stops (part k) _ (rw e (f .refuses)) ∙ ap part e)
+    (λ (e : k ≡ i). or-stop (part k) _ (rw e (f .refuses)) ∙ ap part e)
     (λ (l : k < i).
-    passes (part k) _ (f .before k (omega arith) l)
+    or-next (part k) _ (f .before k (omega arith) l)
     ∙ first-decides part (suc k) n i
     (record { from = l; below = omega (arith, f .below); refuses = f .refuses; before = λ j p q. f .before j (omega arith) q }))
     (eq-or-lt-of-le (f .from))
@@ -54,7 +48,7 @@ first-of part k zero r = absurd (r refl)
 first-of part k (suc n) r =
     dite (ℕ-discrete (numberOf (part k)) 0)
     (λ z.
-    let later = first-of part (suc k) n (λ q. r (ap numberOf (passes (part k) _ z) ∙ q)) in
+    let later = first-of part (suc k) n (λ q. r (ap numberOf (or-next (part k) _ z) ∙ q)) in
     (later .0, one-more part k n (later .0) z (later .1)))
     (λ refuses.
     (k, record { from = omega arith; below = omega arith; refuses = refuses; before = λ j p q. absurd (omega arith) }))

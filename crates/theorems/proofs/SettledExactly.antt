@@ -7,7 +7,7 @@ use native.Mathlib.Omega.{arith}
 use borrow.Author.Tests.{le-leb}
 use Rattle.limits.specs.Ranges.{dayHours}
 use Rattle.verdict.specs.Verdict.{numberOf}
-use Rattle.verdict.proofs.First.{kept, or-first, or-second, all-accept}
+use Rattle.verdict.proofs.First.{kept, or-first, or-second, all-accept, or-next}
 use Rattle.contents.specs.File.{areasOf, startAt, bodyAt}
 use Rattle.dayfile.specs.Check.{checkOf}
 use Rattle.surcharge.specs.declared.Terms.{Terms}
@@ -16,7 +16,6 @@ use Rattle.amounts.proofs.Prices.{price-anywhere}
 use Rattle.settlement.specs.Settlement.{numbersNeeded, chargeable, chargeRule, hourRefusal, hoursRefusal, areaRefusal, areasRefusal, acceptedRule}
 use Rattle.settlement.specs.Settlement.{settleWith, daysBy, termsBy, settleBy}
 use Rattle.settlement.proofs.Room.{check-accepts, room-enough}
-use Rattle.theorems.proofs.FirstIndex.{passes}
 use Rattle.theorems.proofs.Settled.{hour-accepted}
 
 -- an hour that refuses nothing
@@ -42,7 +41,7 @@ module _ (terms : Terms) (start : ℕ) (body : List ℕ) (h : ℕ) where
 
   hour-accepts : HourSettled terms body h → numberOf (hourRefusal terms start body h) ≡ 0
   unfolding hourRefusal chargeRule
-  hour-accepts s = ap numberOf (passes (priceRule terms start body h) _ (s .priced start)) ∙ rw (s .paid)
+  hour-accepts s = ap numberOf (or-next (priceRule terms start body h) _ (s .priced start)) ∙ rw (s .paid)
 
 -- ---- the file
 
@@ -66,4 +65,4 @@ module _ (d : ℕ → List ℕ → ℕ) (room : ℕ) (file : List ℕ) where
 
   pub settled-accepts : Settled d room file → numberOf (settleBy d file room) ≡ 0
   unfolding settleWith acceptedRule
-  settled-accepts s = ap numberOf (passes (checkOf file) _ (s .checked)) ∙ rw (le-leb (numbersNeeded file) room (s .roomy)) (areas-accept s)
+  settled-accepts s = ap numberOf (or-next (checkOf file) _ (s .checked)) ∙ rw (le-leb (numbersNeeded file) room (s .roomy)) (areas-accept s)

@@ -15,7 +15,7 @@ use Rattle.verdict.specs.declared.Verdict.{Verdict}
 use Rattle.verdict.specs.declared.Verdict.the-variants.{RoomTooShort}
 use Rattle.verdict.specs.Verdict.{numberOf}
 use Rattle.verdict.specs.First.{scan}
-use Rattle.verdict.proofs.First.{scan-each, all-accept}
+use Rattle.verdict.proofs.First.{scan-each, all-accept, or-stop, or-next}
 use Rattle.contents.specs.File.{areasOf}
 use Rattle.dayfile.specs.Check.{checkOf}
 use Rattle.settlement.specs.Settlement.{numbersNeeded, statementTo, hoursRefusal, areaRefusal, areasRefusal, acceptedRule, settleWith, daysBy, ownDays}
@@ -23,7 +23,7 @@ use Rattle.settlement.specs.Settlement.{settleBy}
 use Rattle.settlement.specs.Shown.{statementLeftBy}
 use Rattle.settlement.proofs.Accepted.{settled, refused}
 use Rattle.theorems.specs.Refused.{Refuses, hourVerdict, FirstHour, CheckRefuses, RoomShort, HourRefuses, RefusedWith}
-use Rattle.theorems.proofs.FirstIndex.{stops, passes, first-decides, first-of}
+use Rattle.theorems.proofs.FirstIndex.{first-decides, first-of}
 
 -- ---- under any d
 
@@ -55,15 +55,15 @@ module _ (d : ℕ → List ℕ → ℕ) where
     module _ (room : ℕ) where
       by-check : Refuses (checkOf file) → settleBy d file room ≡ checkOf file
       unfolding settleWith
-      by-check r = stops (checkOf file) _ r
+      by-check r = or-stop (checkOf file) _ r
 
       by-room : numberOf (checkOf file) ≡ 0 → room < numbersNeeded file → settleBy d file room ≡ RoomTooShort (numbersNeeded file)
       unfolding settleWith acceptedRule
-      by-room z short = passes (checkOf file) _ z ∙ rw (lt-leb (numbersNeeded file) room short)
+      by-room z short = or-next (checkOf file) _ z ∙ rw (lt-leb (numbersNeeded file) room short)
 
       by-areas : numberOf (checkOf file) ≡ 0 → numbersNeeded file ≤ room → settleBy d file room ≡ scan (areaRefusal days file) 0 (areasOf file)
       unfolding settleWith acceptedRule areasRefusal
-      by-areas z roomy = passes (checkOf file) _ z ∙ rw (le-leb (numbersNeeded file) room roomy)
+      by-areas z roomy = or-next (checkOf file) _ z ∙ rw (le-leb (numbersNeeded file) room roomy)
 
     -- the first hour that refuses decides all areas
     first-hour-decides : (k h : ℕ) → FirstHour d file k h → scan (areaRefusal days file) 0 (areasOf file) ≡ hourVerdict d file k h

@@ -6,11 +6,10 @@ ghost use mathlib.Core.Path.{_≡_};
 ghost use Prim.Native.Nat.{_^_};
 ghost use Rattle.limits.specs.Ranges.{recordedDays};
 ghost use Rattle.verdict.specs.Verdict.{numberOf};
-ghost use Rattle.contents.specs.File.{dayOf, areasOf};
-ghost use Rattle.dayfile.specs.Check.{checkOf};
+ghost use Rattle.contents.specs.File.{areasOf};
 ghost use Rattle.marking.specs.Marked.{markedFrom};
 ghost use Rattle.recording.specs.Record.{entries, markedAll, Sound, answered};
-ghost use Rattle.record_check.specs.Left.{recordRule};
+ghost use Rattle.record_check.specs.Left.{admitRule};
 ghost use Rattle.settlement.specs.SoundFile.{SoundFile};
 ghost use Rattle.entering.specs.Enter.{answerWith, roomRule, answeredBy, entered};
 
@@ -60,7 +59,7 @@ fn mark_areas(given: Record, file: &[u8], n: usize) -> Marking
 
 // Past 18: the record moves on to the day of the file, and the areas that failed are marked, or 19.
 fn enter_after(given: Record, file: &[u8]) -> Entered
-    requires { ⌜ (numberOf (checkOf (now file)) ≡ 0) × (numberOf (recordRule given (dayOf (now file))) ≡ 0) ⌝ }
+    requires { ⌜ numberOf (admitRule given (now file)) ≡ 0 ⌝ }
     ensures { λ r. ⌜ r ≡ answeredBy given (now (file .entry)) (roomRule given (now (file .entry))) ⌝ }
 {
     let date = words::word(file, 1);
@@ -83,13 +82,9 @@ fn enter_after(given: Record, file: &[u8]) -> Entered
 pub fn enter(given: Record, file: &[u8]) -> Entered
     ensures { λ r. ⌜ r ≡ entered given (now (file .entry)) ⌝ }
 {
-    let checked = dayfile::check(file);
-    if verdict::number(checked) != 0 {
-        return refuse(checked, given);
-    }
-    let judged = record_check::judge(given, words::word(file, 1));
-    if verdict::number(judged) != 0 {
-        return refuse(judged, given);
+    let v = record_check::admit(given, file);
+    if verdict::number(v) != 0 {
+        return refuse(v, given);
     }
     enter_after(given, file)
 }

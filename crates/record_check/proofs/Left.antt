@@ -14,16 +14,18 @@ use Rattle.limits.specs.Ranges.{recordedDays, largestNumber, mostDays}
 use Rattle.limits.specs.Editions.{mostHeld}
 use Rattle.verdict.specs.Verdict.{numberOf}
 use Rattle.verdict.specs.declared.Verdict.the-variants.{Accepted}
-use Rattle.verdict.proofs.First.{both, kept}
+use Rattle.verdict.proofs.First.{both, kept, or-first, or-second}
 use Rattle.calendar.specs.Date.{realDate}
 use Rattle.calendar.specs.DayNumber.{dayNumber}
 use Rattle.calendar.proofs.DayNumber.{rising}
 use Rattle.marks.specs.Marks.{counted}
 use Rattle.marks.proofs.Bits.{bits-most, bits-none}
+use Rattle.contents.specs.File.{dayOf}
+use Rattle.dayfile.specs.Check.{checkOf}
 use Rattle.recording.specs.declared.Place.{Place}
 use Rattle.recording.specs.declared.Record.{Record}
 use Rattle.recording.specs.Record.{entries, marksOf}
-use Rattle.record_check.specs.Left.{marksEnd, placeLeft, placesLeft, placeEmpty, unusedEmpty, lastLeft, recordLeft, recordRule, daysBetween}
+use Rattle.record_check.specs.Left.{marksEnd, placeLeft, placesLeft, placeEmpty, unusedEmpty, lastLeft, recordLeft, recordRule, admitRule, daysBetween}
 
 -- ---- a place
 
@@ -115,6 +117,15 @@ record-before r date z =
     let a = kept (recordLeft r) _ _ (λ q. omega arith) z in
     let b = kept (ltb (r .last) date) _ Accepted (λ q. omega arith) (a .1) in
     record { left = record-kept r (a .0); after = ltb-true (r .last) date (b .0) }
+
+-- a file and a record that are admitted
+pub record Admitted (r : Record) (file : List ℕ) : Type 0 where
+  pub checked : numberOf (checkOf file) ≡ 0
+  pub judged : numberOf (recordRule r (dayOf file)) ≡ 0
+
+pub admitted : (r : Record) (file : List ℕ) → numberOf (admitRule r file) ≡ 0 → Admitted r file
+unfolding admitRule
+admitted r file z = record { checked = or-first (checkOf file) _ z; judged = or-second (checkOf file) _ z }
 
 -- no area has more marked days than the thirty before a day
 pub days-few : (r : Record) (date area : ℕ) → Before r date → counted (marksOf area (entries r)) (daysBetween r date) ≤ mostDays

@@ -9,9 +9,11 @@ use Rattle.limits.specs.Ranges.{recordedDays, largestNumber}
 use Rattle.limits.specs.Editions.{mostHeld}
 use Rattle.verdict.specs.declared.Verdict.{Verdict}
 use Rattle.verdict.specs.declared.Verdict.the-variants.{Accepted, BadRecord, DayNotAfter}
-use Rattle.verdict.specs.First.{rule_else_then_}
+use Rattle.verdict.specs.First.{rule_else_then_, _orElse_}
 use Rattle.calendar.specs.Date.{realDate}
 use Rattle.calendar.specs.DayNumber.{dayNumber}
+use Rattle.contents.specs.File.{dayOf}
+use Rattle.dayfile.specs.Check.{checkOf}
 use Rattle.recording.specs.declared.Place.{Place}
 use Rattle.recording.specs.declared.Record.{Record}
 use Rattle.recording.specs.Record.{entries}
@@ -52,6 +54,10 @@ recordRule r date =
     rule recordLeft r else BadRecord then
     rule ltb (r .last) date else DayNotAfter then
     Accepted
+
+-- the check's 1 to 10 before that
+unfoldable pub admitRule : Record → (file : List ℕ) → Verdict
+admitRule r file = checkOf file orElse recordRule r (dayOf file)
 
 -- the calendar days between the last day entered and a later date
 abbrev pub daysBetween : Record → (date : ℕ) → ℕ

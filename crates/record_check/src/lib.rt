@@ -11,7 +11,7 @@ ghost use Rattle.verdict.specs.Verdict.{numberOf};
 ghost use Rattle.calendar.specs.Date.{realDate};
 ghost use Rattle.calendar.specs.DayNumber.{dayNumber};
 ghost use Rattle.recording.specs.Record.{entries};
-ghost use Rattle.record_check.specs.Left.{marksEnd, placeLeft, placesLeft, placeEmpty, unusedEmpty, lastLeft, recordLeft, recordRule, daysBetween};
+ghost use Rattle.record_check.specs.Left.{marksEnd, placeLeft, placesLeft, placeEmpty, unusedEmpty, lastLeft, recordLeft, recordRule, admitRule, daysBetween};
 
 // The number of the last day entered; 0 before the first.
 fn last_number(last: u32) -> u32
@@ -122,7 +122,7 @@ fn record_left(given: Record) -> bool
 }
 
 // 14, then 18, for a trading day.
-pub fn judge(given: Record, date: u32) -> Verdict
+fn judge(given: Record, date: u32) -> Verdict
     ensures { λ r. ⌜ r ≡ recordRule given date ⌝ }
 {
     if !record_left(given) {
@@ -132,6 +132,17 @@ pub fn judge(given: Record, date: u32) -> Verdict
         return Verdict::DayNotAfter;
     }
     Verdict::Accepted
+}
+
+// The check of a day file, then the record judged for its trading day.
+pub fn admit(given: Record, file: &[u8]) -> Verdict
+    ensures { λ r. ⌜ r ≡ admitRule given (now (file .entry)) ⌝ }
+{
+    let v = dayfile::check(file);
+    if verdict::number(v) != 0 {
+        return v;
+    }
+    judge(given, words::word(file, 1))
 }
 
 // The calendar days between the last day entered and a trading day after it.

@@ -7,10 +7,9 @@ ghost use lib.ListN.{length};
 ghost use Rattle.limits.specs.Editions.{mostHeld};
 ghost use Rattle.verdict.specs.Verdict.{numberOf};
 ghost use Rattle.contents.specs.File.{dayOf, areasOf, numberAt};
-ghost use Rattle.dayfile.specs.Check.{checkOf};
 ghost use Rattle.marks.specs.Marks.{counted};
 ghost use Rattle.recording.specs.Record.{entries, marksOf};
-ghost use Rattle.record_check.specs.Left.{recordRule};
+ghost use Rattle.record_check.specs.Left.{admitRule};
 ghost use Rattle.settlement.specs.SoundFile.{SoundFile};
 ghost use Rattle.settlement.specs.Settlement.{listed, daysBy, acceptedRule};
 ghost use Rattle.recorded.specs.Recorded.{recordDays, settleRecorded, afterRecorded};
@@ -32,7 +31,7 @@ fn recorded_days(given: Record, g: u32, file: &[u8], n: usize) -> [u32; limits::
 
 // Past 18: 13, then areas and hours in order, and where nothing is refused the statement.
 fn settle_after(given: Record, file: &[u8], statement: &mut [i64]) -> Verdict
-    requires { ⌜ (numberOf (checkOf (now file)) ≡ 0) × (numberOf (recordRule given (dayOf (now file))) ≡ 0) ⌝ }
+    requires { ⌜ numberOf (admitRule given (now file)) ≡ 0 ⌝ }
     ensures { λ r. ⌜ r ≡ acceptedRule (daysBy (recordDays given (dayOf (now (file .entry)))) (now (file .entry))) (now (file .entry))
         (length (now (statement .entry))) ⌝ }
     ensures { λ r. ⌜ now (statement .exit) ≡ afterRecorded given (now (file .entry)) r (now (statement .entry)) ⌝ }
@@ -50,13 +49,9 @@ pub fn settle_recorded(given: Record, file: &[u8], statement: &mut [i64]) -> Ver
     ensures { λ r. ⌜ r ≡ settleRecorded given (now (file .entry)) (length (now (statement .entry))) ⌝ }
     ensures { λ r. ⌜ now (statement .exit) ≡ afterRecorded given (now (file .entry)) r (now (statement .entry)) ⌝ }
 {
-    let checked = dayfile::check(file);
-    if verdict::number(checked) != 0 {
-        return checked;
-    }
-    let judged = record_check::judge(given, words::word(file, 1));
-    if verdict::number(judged) != 0 {
-        return judged;
+    let v = record_check::admit(given, file);
+    if verdict::number(v) != 0 {
+        return v;
     }
     settle_after(given, file, statement)
 }

@@ -13,11 +13,15 @@ use Rattle.marks.specs.Marks.{aged}
 use Rattle.limits.specs.Editions.{mostHeld}
 use Rattle.recording.specs.declared.Place.{Place}
 use Rattle.recording.specs.declared.Record.{Record}
-use Rattle.recording.specs.Record.{place, recordOf, pushed, kept}
+use Rattle.recording.specs.Record.{place, entries, recordOf, pushed, kept}
 
 -- an array of structs is known by the list of their values
 pub length-mapped : {X Y : Type 0} (f : X → Y) (l : List X) (n : ℕ) → length (map f l) ≡ n → length l ≡ n
 length-mapped f l n e = sym (length-map l f) ∙ e
+
+-- the list is as long as the record says
+pub entries-long : (r : Record) → length (r .places) ≡ mostHeld → r .held ≤ mostHeld → length (entries r) ≡ r .held
+entries-long r full few = omega (arith, length-take (r .held) (r .places))
 
 -- a place pushed on the record of a list makes the record of the list with it at the end
 pub push-list : (last : ℕ) (l : List Place) (p : Place) → length l < mostHeld → pushed (recordOf last l) p ≡ recordOf last (l ++ (p ∷ []))

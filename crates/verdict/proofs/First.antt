@@ -2,6 +2,8 @@
 use Prim.Native.Nat.{ℕ, zero, suc, _+_, _-_, _<_, _≤_}
 use mathlib.Core.Path.{_≡_, refl, sym, ap, ap₂, _∙_, subst}
 use mathlib.Core.Bool.{Bool, true, false, _&&_}
+use mathlib.Core.Logic.{dite}
+use native.Mathlib.Decide.{ℕ-discrete}
 use native.Mathlib.Omega.{arith}
 use native.Mathlib.Numerals.{add-one}
 use native.Mathlib.Nat.{add-zero, zero-add}
@@ -42,6 +44,13 @@ module _ (first second : Verdict) where
 
   pub or-second : numberOf (first orElse second) ≡ 0 → numberOf second ≡ 0
   or-second z = ap numberOf (sym (or-next (or-first z))) ∙ z
+
+-- three parts in order, however they are taken together
+pub or-assoc : (first second third : Verdict) → ((first orElse second) orElse third) ≡ (first orElse (second orElse third))
+or-assoc first second third =
+    dite (ℕ-discrete (numberOf first) 0)
+    (λ z. ap (λ v. v orElse third) (or-next first second z) ∙ sym (or-next first (second orElse third) z))
+    (λ n. ap (λ v. v orElse third) (or-stop first second n) ∙ or-stop first third n ∙ sym (or-stop first (second orElse third) n))
 
 -- what stands second is looked at only where the first accepts
 pub or-same : (first second other : Verdict) → (numberOf first ≡ 0 → second ≡ other) → (first orElse second) ≡ (first orElse other)

@@ -10,7 +10,7 @@ use Rattle.marking.specs.Marked.{markedFrom}
 use Rattle.recording.specs.Record.{entries, recordOf, kept, markedAll, answered}
 use Rattle.recording.proofs.AllMarked.{aged-sound}
 use Rattle.record_check.specs.Left.{daysBetween}
-use Rattle.record_check.proofs.Left.{Before, record-before}
+use Rattle.record_check.proofs.Left.{admitted, Before, record-before}
 use Rattle.settlement.specs.SoundFile.{SoundFile}
 use Rattle.settlement.proofs.Accepted.{within, sound-file}
 use Rattle.entering.proofs.Entry.{too-many, taken}
@@ -18,13 +18,13 @@ use Rattle.entering.proofs.enter_after.Statement.{statement}
 use Rattle.entering.proofs.enter_after.Tie as tie
 
 sound : (c : tie.Start) → SoundFile (now (c .args .file))
-sound c = sound-file _ (c .pre .0)
+sound c = sound-file _ (admitted _ _ (c .pre) .checked)
 
 before : (c : tie.Start) → Before (c .args .given) (dayOf (now (c .args .file)))
-before c = record-before _ _ (c .pre .1)
+before c = record-before _ _ (admitted _ _ (c .pre) .judged)
 
 real : (c : tie.Start) → realDate (dayOf (now (c .args .file))) ≡ true
-real c = file-head _ _ (within _ (c .pre .0)) .real
+real c = file-head _ _ (within _ (admitted _ _ (c .pre) .checked)) .real
 
 -- the record on the day of the file
 aged : (c : tie.After-age-all) →
@@ -57,7 +57,7 @@ word-requires-2 c κs = let r = sound (c .before .before) .room in omega arith
 gap-requires : tie.Need-gap-requires
 gap-requires c κs =
     let s = c .before .before .before in
-    rw (c .before .word .ensures) (real s, s .pre .1)
+    rw (c .before .word .ensures) (real s, admitted _ _ (s .pre) .judged)
 
 age-all-requires : tie.Need-age-all-requires
 age-all-requires c κs = before (c .before .before .before .before) .left .few

@@ -7,7 +7,7 @@ use lib.ListN.{take, drop, length, getD, length-take}
 use lib.Seq.{getD-take}
 use Rattle.limits.specs.Editions.{mostHeld}
 use Rattle.recording.specs.Record.{place, entries}
-use Rattle.recording.proofs.Lists.{length-mapped}
+use Rattle.recording.proofs.Lists.{length-mapped, entries-long}
 use Rattle.record_check.specs.Left.{placeLeft, placesLeft}
 use Rattle.record_check.proofs.Left.{place-kept, places-stop, places-next, places-done}
 use Rattle.record_check.proofs.places_left.Statement.{statement}
@@ -20,9 +20,7 @@ abbrev μ-loop : tie.MeasureT-loop
 μ-loop end places held low₀ k₀ low k = held - k
 
 long : (c : tie.Start Inv-loop μ-loop) → length (entries (c .args .given)) ≡ c .args .given .held
-long c =
-    let full : length (c .args .given .places) ≡ mostHeld = search length-mapped in
-    omega (arith, c .pre, length-take (c .args .given .held) (c .args .given .places))
+long c = entries-long (c .args .given) (search length-mapped) (c .pre)
 
 -- the place that is tested is that of the list
 module _ (c : tie.After-place-left Inv-loop μ-loop) where

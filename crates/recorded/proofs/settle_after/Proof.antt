@@ -9,7 +9,7 @@ use Rattle.dayfile.proofs.Facts.{file-head}
 use Rattle.marks.specs.Marks.{counted}
 use Rattle.recording.specs.Record.{entries, marksOf}
 use Rattle.record_check.specs.Left.{daysBetween}
-use Rattle.record_check.proofs.Left.{Before, record-before, days-few}
+use Rattle.record_check.proofs.Left.{admitted, Before, record-before, days-few}
 use Rattle.settlement.specs.SoundFile.{SoundFile}
 use Rattle.settlement.specs.Settlement.{listed, daysBy}
 use Rattle.settlement.proofs.Accepted.{within, sound-file, settleable, rule-same, after-same}
@@ -18,10 +18,10 @@ use Rattle.recorded.proofs.settle_after.Statement.{statement}
 use Rattle.recorded.proofs.settle_after.Tie as tie
 
 sound : (c : tie.Start) → SoundFile (now (c .args .file))
-sound c = sound-file _ (c .pre .0)
+sound c = sound-file _ (admitted _ _ (c .pre) .checked)
 
 before : (c : tie.Start) → Before (c .args .given) (dayOf (now (c .args .file)))
-before c = record-before _ _ (c .pre .1)
+before c = record-before _ _ (admitted _ _ (c .pre) .judged)
 
 -- each area's d is that of the record
 days-are : (c : tie.After-recorded-days) →
@@ -44,7 +44,7 @@ word-requires-2 c κs = let r = sound (c .before .before) .room in omega arith
 gap-requires : tie.Need-gap-requires
 gap-requires c κs =
     let s = c .before .before .before in
-    rw (c .before .word .ensures) (file-head _ _ (within _ (s .pre .0)) .real, s .pre .1)
+    rw (c .before .word .ensures) (file-head _ _ (within _ (admitted _ _ (s .pre) .checked)) .real, admitted _ _ (s .pre) .judged)
 
 recorded-days-requires : tie.Need-recorded-days-requires
 recorded-days-requires c κs =

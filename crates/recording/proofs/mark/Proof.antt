@@ -9,17 +9,14 @@ use lib.ListN.{take, drop, length, getD, length-take}
 use lib.Seq.{getD-take}
 use Rattle.limits.specs.Editions.{mostHeld}
 use Rattle.recording.specs.Record.{place, entries, recordOf, marked}
-use Rattle.recording.proofs.Lists.{length-mapped}
+use Rattle.recording.proofs.Lists.{length-mapped, entries-long}
 use Rattle.recording.proofs.InPlace.{lead-most, marked-held, marked-new, put-length, listed-of}
 use Rattle.recording.proofs.InPlace.{front-is, with-listed, after-is, answer-marked, answer-refused}
 use Rattle.recording.proofs.mark.Statement.{statement}
 use Rattle.recording.proofs.mark.Tie as tie
 
--- the list is as long as the record says
 long : (c : tie.Start) → length (entries (c .args .given)) ≡ c .args .given .held
-long c =
-    let full : length (c .args .given .places) ≡ mostHeld = search length-mapped in
-    omega (arith, c .pre .few, length-take (c .args .given .held) (c .args .given .places))
+long c = entries-long (c .args .given) (search length-mapped) (c .pre .few)
 
 within : (c : tie.After-place-of) → c .place-of .result ≤ c .before .before .before .args .given .held
 within c =

@@ -6,7 +6,7 @@ use lib.ListN.{take, drop, length, length-take}
 use lib.Seq.{getD-take}
 use Rattle.limits.specs.Editions.{mostHeld}
 use Rattle.recording.specs.Record.{place, entries, marksOf}
-use Rattle.recording.proofs.Lists.{length-mapped}
+use Rattle.recording.proofs.Lists.{length-mapped, entries-long}
 use Rattle.recording.proofs.AreaMarks.{found-here, found-next, found-none}
 use Rattle.recording.proofs.marks_of.Statement.{statement}
 use Rattle.recording.proofs.marks_of.Tie as tie
@@ -18,9 +18,7 @@ abbrev μ-loop : tie.MeasureT-loop
 μ-loop area places held k₀ k = held - k
 
 long : (c : tie.Start Inv-loop μ-loop) → length (entries (c .args .given)) ≡ c .args .given .held
-long c =
-    let full : length (c .args .given .places) ≡ mostHeld = search length-mapped in
-    omega (arith, c .pre, length-take (c .args .given .held) (c .args .given .places))
+long c = entries-long (c .args .given) (search length-mapped) (c .pre)
 
 loop-holds : tie.Need-loop-holds Inv-loop μ-loop
 loop-holds c = (omega arith, refl)

@@ -6,7 +6,7 @@ use lib.ListN.{take, drop, length, length-take}
 use lib.Seq.{getD-take}
 use Rattle.limits.specs.Editions.{mostHeld}
 use Rattle.recording.specs.Record.{place, entries, leading}
-use Rattle.recording.proofs.Lists.{length-mapped}
+use Rattle.recording.proofs.Lists.{length-mapped, entries-long}
 use Rattle.recording.proofs.InPlace.{lead-stop, lead-next, lead-done}
 use Rattle.recording.proofs.place_of.Statement.{statement}
 use Rattle.recording.proofs.place_of.Tie as tie
@@ -17,11 +17,8 @@ Inv-loop area places held k₀ k = (k ≤ held) × (leading area (take held plac
 abbrev μ-loop : tie.MeasureT-loop
 μ-loop area places held k₀ k = held - k
 
--- the list is as long as the record says
 long : (c : tie.Start Inv-loop μ-loop) → length (entries (c .args .given)) ≡ c .args .given .held
-long c =
-    let full : length (c .args .given .places) ≡ mostHeld = search length-mapped in
-    omega (arith, c .pre, length-take (c .args .given .held) (c .args .given .places))
+long c = entries-long (c .args .given) (search length-mapped) (c .pre)
 
 loop-holds : tie.Need-loop-holds Inv-loop μ-loop
 loop-holds c = (omega arith, omega arith)

@@ -29,7 +29,7 @@ count : (m : ℕ) (t : Bool) (a : ℕ) → a ≤ m → cond t a 0 ≤ m
 count m true a h = h
 count m false a h = zero-le
 
-highest-small : (m : ℕ) (terms : Terms) (numbers : ℕ → ℕ) (n : ℕ) → ((h : ℕ) → h < n → numbers h ≤ m) → highest terms numbers n ≤ m
+pub highest-small : (m : ℕ) (terms : Terms) (numbers : ℕ → ℕ) (n : ℕ) → ((h : ℕ) → h < n → numbers h ≤ m) → highest terms numbers n ≤ m
 unfolding highest
 highest-small m terms numbers zero each = zero-le
 highest-small m terms numbers (suc n) each =

@@ -16,19 +16,25 @@ eight : (bits : ℕ) → length (bytesOf bits) ≡ 8
 unfolding bytesOf
 eight bits = refl
 
-encoded-length : (numbers : List ℤ) → length (encoded numbers) ≡ 8 * length numbers
+pub encoded-length : (numbers : List ℤ) → length (encoded numbers) ≡ 8 * length numbers
 unfolding encoded
 encoded-length [] = refl
 encoded-length (z ∷ numbers) = simp (length-append, eight, encoded-length numbers) (omega arith)
 
-encoded-last : (numbers : List ℤ) (z : ℤ) → encoded (numbers ++ (z ∷ [])) ≡ encoded numbers ++ bytesOf (bitsOf z)
+pub encoded-append : (numbers more : List ℤ) → encoded (numbers ++ more) ≡ encoded numbers ++ encoded more
 unfolding encoded
-encoded-last [] z = append-nil (bytesOf (bitsOf z))
-encoded-last (x ∷ numbers) z = rw (encoded-last numbers z) (sym (append-assoc (bytesOf (bitsOf x)) (encoded numbers) (bytesOf (bitsOf z))))
+encoded-append [] more = refl
+encoded-append (z ∷ numbers) more = rw (encoded-append numbers more) (sym (append-assoc (bytesOf (bitsOf z)) (encoded numbers) (encoded more)))
+
+one : (z : ℤ) → encoded (z ∷ []) ≡ bytesOf (bitsOf z)
+unfolding encoded
+one z = append-nil (bytesOf (bitsOf z))
 
 encoded-more : (numbers : List ℤ) (i : ℕ) → i < length numbers
     → encoded (take (i + 1) numbers) ≡ encoded (take i numbers) ++ bytesOf (bitsOf (getD numbers i (pos 0)))
-encoded-more numbers i h = rw (add-one, take-suc numbers i (pos 0)) (encoded-last (take i numbers) (getD numbers i (pos 0)))
+encoded-more numbers i h =
+    let z = getD numbers i (pos 0) in
+    rw (add-one, take-suc numbers i (pos 0)) (encoded-append (take i numbers) (z ∷ []) ∙ rw (one z))
 
 -- a turn of the loop that stores number after number
 pub encoded-step : (numbers : List ℤ) (i : ℕ) (z : ℤ) (before xs part : List ℕ) → i < length numbers → z ≡ getD numbers i (pos 0)

@@ -5,14 +5,14 @@ ghost use Prim.Native.Nat.{_*_, _≤_};
 ghost use lib.ListN.{length, drop};
 ghost use Rattle.encoding.specs.Encoding.{bitsOf, bytesOf, encoded};
 
+// Two's complement. Written so that it costs no instruction.
 fn bits(z: i64) -> u64
     ensures { λ r. ⌜ r ≡ bitsOf z ⌝ }
 {
-    let size = exact::absolute(z);
     if z < 0 {
-        return 18446744073709551615 - (size - 1);
+        return 18446744073709551615 - ((-1 - z) as u64);
     }
-    size
+    z as u64
 }
 
 fn put_number(z: i64, bytes: &mut [u8])

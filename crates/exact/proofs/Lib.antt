@@ -1,5 +1,6 @@
 pub mod Magnitude
 pub mod Difference
+pub mod Flipped
 pub mod Machine
 pub mod Round
 pub mod Floor

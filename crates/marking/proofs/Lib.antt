@@ -1,1 +1,2 @@
 pub mod MarkedAreas
+pub mod Unmarked

@@ -48,7 +48,8 @@ impl Average {
         let value = self.value;
         let sum = self.quantity;
         let more = Quantity(quantity);
-        self.value = value.plus(more.at_market_price(MarketPrice(words::signed(price))));
+        let price = MarketPrice(words::signed(price));
+        self.value = value.plus(more.small_at_market_price(price));
         self.quantity = sum.plus(more);
         self.count += 1;
         self

@@ -3,7 +3,7 @@ use recording::Record;
 use verdict::Verdict;
 ghost use mathlib.Core.Path.{_≡_};
 ghost use Prim.Native.Nat.{ℕ, _≤_, _<_};
-ghost use lib.ListN.{length};
+ghost use lib.ListN.{length, getD};
 ghost use Rattle.limits.specs.Editions.{mostHeld};
 ghost use Rattle.verdict.specs.Verdict.{numberOf};
 ghost use Rattle.contents.specs.File.{dayOf, areasOf, numberAt};
@@ -11,13 +11,13 @@ ghost use Rattle.marks.specs.Marks.{counted};
 ghost use Rattle.recording.specs.Record.{entries, marksOf};
 ghost use Rattle.record_check.specs.Left.{admitRule};
 ghost use Rattle.settlement.specs.SoundFile.{SoundFile};
-ghost use Rattle.settlement.specs.Settlement.{listed, daysBy, acceptedRule};
+ghost use Rattle.settlement.specs.Settlement.{daysBy, acceptedRule};
 ghost use Rattle.recorded.specs.Recorded.{recordDays, settleRecorded, afterRecorded};
 
 // The d of n areas on a day that is g days after the last day entered.
 fn recorded_days(given: Record, g: u32, file: &[u8], n: usize) -> [u32; limits::PLAIN_AREAS]
     requires { ⌜ (SoundFile (now file)) × (n ≡ areasOf (now file)) × (given .held ≤ mostHeld) ⌝ }
-    ensures { λ r. ⌜ ((k : ℕ) → k < areasOf (now (file .entry)) → listed r k ≡ counted (marksOf (numberAt (now (file .entry)) k) (entries given)) g) ⌝ }
+    ensures { λ r. ⌜ ((k : ℕ) → k < areasOf (now (file .entry)) → getD r k 0 ≡ counted (marksOf (numberAt (now (file .entry)) k) (entries given)) g) ⌝ }
 {
     let mut days = [0u32; limits::PLAIN_AREAS];
     let mut k: usize = 0;

@@ -1,2 +1,2 @@
-pub mod Through
+mod Bytes
 pub mod Decoded

@@ -1,27 +1,29 @@
 -- A file that the check accepts is one that settlement can work on, and what settling it with other but equal days comes to.
 use Prim.Native.Nat.{ℕ, zero, suc, _≤_, _<_}
-use mathlib.Core.List.{List, _++_}
-use mathlib.Core.Path.{_≡_, refl, ap, ap₂}
+use mathlib.Core.List.{List, [], _++_}
+use mathlib.Core.Path.{_≡_, refl, ap, ap₂, _∙_}
 use native.Mathlib.Omega.{arith}
-use lib.ListN.{length, drop}
+use lib.ListN.{length, getD, drop}
 use lib.IntN.{ℤ}
-use borrow.Author.Tests.{eq-eqb, ne-eqb}
+use borrow.Author.Tests.{eq-eqb, ne-eqb, lt-ltb, le-ltb}
 use Rattle.limits.specs.declared.Limits.{Limits}
 use Rattle.limits.specs.Ranges.{plainPoints}
 use Rattle.limits.specs.Editions.{limitsOf}
 use Rattle.limits.proofs.Editions.{plain}
 use Rattle.verdict.specs.declared.Verdict.{Verdict}
 use Rattle.verdict.specs.Verdict.{numberOf}
+use Rattle.verdict.specs.First.{_orElse_}
 use Rattle.verdict.proofs.First.{scan-same}
 use Rattle.body.proofs.Kept.{always, sound-more}
-use Rattle.contents.specs.File.{editionOf, areasOf, startAt, bodyAt}
+use Rattle.contents.specs.File.{editionOf, areasOf, peakOf, startAt, bodyAt}
 use Rattle.dayfile.specs.Check.{checkOf, checkWithin}
 use Rattle.dayfile.proofs.Facts.{file-head, file-entry}
 use Rattle.acceptance.proofs.SoundAccepted.{file-sound}
+use Rattle.surcharge.specs.declared.Terms.{Terms}
 use Rattle.statement.specs.Block.{block}
 use Rattle.settlement.specs.SoundFile.{SoundFile, DaysKept, Settleable}
 use Rattle.settlement.specs.Settlement.{numbersNeeded, termsAt, hoursRefusal, areaRefusal, areasRefusal, acceptedRule, statementTo, afterWith}
-use Rattle.settlement.specs.Settlement.{listed, daysBy, ownDays}
+use Rattle.settlement.specs.Settlement.{settleWith, termsIn, listed, daysBy, ownDays, settleOf}
 
 module _ (file : List ℕ) (accepted : numberOf (checkOf file) ≡ 0) where
   -- the limits that the file's first word sets
@@ -47,6 +49,10 @@ module _ (file : List ℕ) (accepted : numberOf (checkOf file) ≡ 0) where
   pub own-kept : DaysKept (daysBy ownDays file) file
   own-kept = record { each = λ k h. sound-file .body k h .days always }
 
+pub opened : (file : List ℕ) (room : ℕ) → settleOf file room ≡ (checkOf file orElse acceptedRule (daysBy ownDays file) file room)
+unfolding settleWith
+opened file room = refl
+
 -- ---- other days that are the same for each area of the file
 
 module _ (one other : ℕ → ℕ) (file : List ℕ) (same : (k : ℕ) → k < areasOf file → one k ≡ other k) where
@@ -69,11 +75,31 @@ module _ (one other : ℕ → ℕ) (file : List ℕ) (same : (k : ℕ) → k < a
   unfolding afterWith
   after-same verdict statement = rw (statement-same (areasOf file) (omega arith))
 
+-- ---- the d of each area in a list
+
 -- a list that has a d in its range for each area
-pub settleable : (list : List ℕ) (days : ℕ → ℕ) (file : List ℕ) → SoundFile file → DaysKept days file → areasOf file ≤ length list
-    → ((k : ℕ) → k < areasOf file → listed list k ≡ days k) → Settleable list file
-settleable list days file sound kept enough is =
-    record { sound = sound; enough = enough; kept = record { each = λ k h. omega (arith, is k h, kept .each k h) } }
+pub settleable : (list : List ℕ) (days : ℕ → ℕ) (file : List ℕ) → SoundFile file → DaysKept days file
+    → ((k : ℕ) → k < areasOf file → listed list file k ≡ days k) → Settleable list file
+settleable list days file sound kept is = record { sound = sound; kept = record { each = λ k h. omega (arith, is k h, kept .each k h) } }
+
+-- the terms that `terms_of` makes for area k of a file
+pub terms-there : (list file : List ℕ) (k peak : ℕ) (body : List ℕ) (terms : Terms) → terms ≡ termsIn peak list k body → peak ≡ peakOf file
+    → body ≡ bodyAt file k → terms ≡ termsAt (listed list file) file k
+unfolding termsIn
+terms-there list file k peak body terms e f g = e ∙ rw (f, g)
+
+pub in-list : (list file : List ℕ) (k : ℕ) → k < length list → listed list file k ≡ getD list k 0
+unfolding termsIn
+in-list list file k h = rw (lt-ltb k (length list) h)
+
+-- with an empty list each area has its own
+pub no-list : (file : List ℕ) (k : ℕ) → listed [] file k ≡ daysBy ownDays file k
+unfolding termsIn
+no-list file k = rw (le-ltb k 0 (omega arith))
+
+pub own-settleable : (file : List ℕ) → numberOf (checkOf file) ≡ 0 → Settleable [] file
+own-settleable file accepted =
+    settleable [] (daysBy ownDays file) file (sound-file file accepted) (own-kept file accepted) (λ k h. no-list file k)
 
 -- ---- the statement after a refusal, and after none
 

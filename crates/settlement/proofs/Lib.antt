@@ -1,5 +1,6 @@
 pub mod Areas
 pub mod Accepted
+mod NeverRefused
 pub mod Places
 pub mod Room
 pub mod Stands

@@ -5,7 +5,7 @@ use mathlib.Core.Bool.{Bool, cond, not, _||_}
 use mathlib.Core.List.{List, [], _++_}
 use lib.Dec.{eqb, leb, ltb}
 use lib.IntN.{ℤ, natAbs}
-use lib.ListN.{getD, drop}
+use lib.ListN.{length, getD, drop}
 use Rattle.exact.specs.Total.{total}
 use Rattle.limits.specs.Ranges.{dayHours, mostCoordinators}
 use Rattle.limits.specs.Editions.{mostAreas, mostBytes}
@@ -85,9 +85,14 @@ module _ (days : ℕ → ℕ) (file : List ℕ) where
   unfoldable pub afterWith : Verdict → List ℤ → List ℤ
   afterWith verdict statement = cond (eqb (numberOf verdict) 0) (statementTo (areasOf file) ++ drop (numbersNeeded file) statement) statement
 
--- the d of each area in a list, one for each area
-abbrev pub listed : List ℕ → ℕ → ℕ
-listed days k = getD days k 0
+-- ---- the d of each area in a list; behind the list's end each has its own
+
+-- what area k, of this body, is settled under
+unfoldable pub termsIn : (peak : ℕ) (days : List ℕ) (k : ℕ) (body : List ℕ) → Terms
+termsIn peak days k body = record { peak = peak; days = cond (ltb k (length days)) (getD days k 0) (daysOf body) }
+
+abbrev pub listed : (days file : List ℕ) → ℕ → ℕ
+listed days file k = termsIn (peakOf file) days k (bodyAt file k) .days
 
 -- ---- under any d: a function of an area's number and its body
 

@@ -18,8 +18,7 @@ pub record SoundFile (file : List ℕ) : Type 0 where
 pub record DaysKept (days : ℕ → ℕ) (file : List ℕ) : Type 0 where
   pub each : (k : ℕ) → k < areasOf file → days k ≤ mostDays
 
--- a sound file, with a list of a d for each area
+-- a sound file, with a list of the d of its areas
 pub record Settleable (days file : List ℕ) : Type 0 where
   pub sound : SoundFile file
-  pub enough : areasOf file ≤ length days
-  pub kept : DaysKept (listed days) file
+  pub kept : DaysKept (listed days file) file

@@ -9,13 +9,17 @@ ghost use lib.ListN.{length, drop};
 ghost use Rattle.exact.specs.Total.{total};
 ghost use Rattle.words.specs.Bytes.{wordsFrom};
 ghost use Rattle.limits.specs.Ranges.{mostDemand, plainPoints};
+ghost use mathlib.Core.Bool.{not, _&&_};
+ghost use lib.Dec.{eqb};
+ghost use Rattle.body.specs.Layout.{kindOf};
 ghost use Rattle.body.specs.Kept.{Sound};
+ghost use Rattle.marking.specs.Marked.{markedIn};
 ghost use Rattle.contents.specs.File.{areasOf, peakOf};
 ghost use Rattle.surcharge.specs.Ranges.{TermsKept};
 ghost use Rattle.amounts.specs.Ranges.{AtHour};
 ghost use Rattle.settlement.specs.SoundFile.{SoundFile, Settleable};
-ghost use Rattle.settlement.specs.Settlement.{neededTo, statementTo, chargeable, chargeRule, hourRefusal, hoursRefusal, areasRefusal, listed};
-ghost use Rattle.settlement.specs.Settlement.{daysBy, ownDays, acceptedRule, afterWith, settleOf, after};
+ghost use Rattle.settlement.specs.Settlement.{neededTo, statementTo, termsIn, chargeable, chargeRule, hourRefusal, hoursRefusal};
+ghost use Rattle.settlement.specs.Settlement.{areasRefusal, listed, acceptedRule, afterWith, settleOf, after};
 
 // The numbers of the longest statement of any edition: one area is CISO with the most coordinators, every other has one.
 pub const MOST_NUMBERS: usize = limits::DAY_HOURS
@@ -37,21 +41,35 @@ pub fn numbers_needed(file: &[u8], n: usize) -> usize
     needed
 }
 
+// What area k's day is settled under: its d stands in the list, or else in its body.
+fn terms_of(peak: u32, days: &[u32], k: usize, body: &[u8]) -> Terms
+    requires { ⌜ 28 ≤ length (now body) ⌝ }
+    ensures { λ r. ⌜ r ≡ termsIn peak (now (days .entry)) k (now (body .entry)) ⌝ }
+{
+    if k < days.len() {
+        return Terms {
+            peak,
+            days: days[k],
+        };
+    }
+    Terms {
+        peak,
+        days: words::word(body, 2),
+    }
+}
+
 // The blocks of n areas, each lent its own part of the statement.
 fn write_areas(peak: u32, days: &[u32], file: &[u8], n: usize, statement: &mut [i64])
     requires { ⌜ (Settleable (now days) (now file)) × ((n ≡ areasOf (now file)) × (peak ≡ peakOf (now file))) ⌝ }
     requires { ⌜ neededTo (now file) n ≤ length (now statement) ⌝ }
-    ensures { λ _. ⌜ now (statement .exit) ≡ statementTo (listed (now (days .entry))) (now (file .entry)) n
+    ensures { λ _. ⌜ now (statement .exit) ≡ statementTo (listed (now (days .entry)) (now (file .entry))) (now (file .entry)) n
         ++ drop (neededTo (now (file .entry)) n) (now (statement .entry)) ⌝ }
 {
     let mut to: usize = 0;
     let mut k: usize = 0;
     while k < n {
-        let terms = Terms {
-            peak,
-            days: days[k],
-        };
         let body = contents::body_at(file, k);
+        let terms = terms_of(peak, days, k, body);
         statement::write_area(terms, body, &mut statement[to..]);
         to += statement::area_numbers(words::word(body, 6) as usize);
         k += 1;
@@ -116,8 +134,19 @@ fn check_hour(terms: Terms, day: Day, start: usize, body: &[u8], h: usize, at: u
     check_charge(terms, day, start, body, h, at)
 }
 
-// The first refusal among the hours of an area.
-fn check_area(terms: Terms, start: usize, body: &[u8]) -> Verdict
+// Whether nothing of an area can be refused, seen without its prices: only a marked area needs one, and only CISO can lack demand.
+fn never_refused(body: &[u8]) -> bool
+    requires { ⌜ Sound plainPoints (now body) ⌝ }
+    ensures { λ r. ⌜ r ≡ (not (eqb (kindOf (now (body .entry))) 1) && not (markedIn (now (body .entry)))) ⌝ }
+{
+    if words::word(body, 0) == 1 {
+        return false;
+    }
+    !marking::marked(body)
+}
+
+// The first refusal among the hours of an area, one by one.
+fn check_hours(terms: Terms, start: usize, body: &[u8]) -> Verdict
     requires { ⌜ (TermsKept terms) × ((Sound plainPoints (now body)) × (start < 4294967296)) ⌝ }
     ensures { λ r. ⌜ r ≡ hoursRefusal terms start (now (body .entry)) ⌝ }
 {
@@ -137,19 +166,28 @@ fn check_area(terms: Terms, start: usize, body: &[u8]) -> Verdict
     Verdict::Accepted
 }
 
+// The first refusal among the hours of an area.
+fn check_area(terms: Terms, start: usize, body: &[u8]) -> Verdict
+    requires { ⌜ (TermsKept terms) × ((Sound plainPoints (now body)) × (start < 4294967296)) ⌝ }
+    ensures { λ r. ⌜ r ≡ hoursRefusal terms start (now (body .entry)) ⌝ }
+{
+    if never_refused(body) {
+        return Verdict::Accepted;
+    }
+    check_hours(terms, start, body)
+}
+
 // The first refusal among areas and hours in order.
 fn check_areas(peak: u32, days: &[u32], file: &[u8], n: usize) -> Verdict
     requires { ⌜ (Settleable (now days) (now file)) × ((n ≡ areasOf (now file)) × (peak ≡ peakOf (now file))) ⌝ }
-    ensures { λ r. ⌜ r ≡ areasRefusal (listed (now (days .entry))) (now (file .entry)) ⌝ }
+    ensures { λ r. ⌜ r ≡ areasRefusal (listed (now (days .entry)) (now (file .entry))) (now (file .entry)) ⌝ }
 {
     let mut k: usize = 0;
     while k < n {
-        let terms = Terms {
-            peak,
-            days: days[k],
-        };
         let start = words::word(file, 4 + 3 * k + 1) as usize;
-        let v = check_area(terms, start, contents::body_at(file, k));
+        let body = contents::body_at(file, k);
+        let terms = terms_of(peak, days, k, body);
+        let v = check_area(terms, start, body);
         if verdict::number(v) != 0 {
             return v;
         }
@@ -158,38 +196,47 @@ fn check_areas(peak: u32, days: &[u32], file: &[u8], n: usize) -> Verdict
     Verdict::Accepted
 }
 
-// The file's own persistent days of n areas.
-fn file_days(file: &[u8], n: usize) -> [u32; limits::PLAIN_AREAS]
-    requires { ⌜ (SoundFile (now file)) × (n ≡ areasOf (now file)) ⌝ }
-    ensures { λ r. ⌜ ((k : ℕ) → k < areasOf (now (file .entry)) → listed r k ≡ daysBy ownDays (now (file .entry)) k) ⌝ }
-{
-    let mut days = [0u32; limits::PLAIN_AREAS];
-    let mut k: usize = 0;
-    while k < n {
-        days[k] = words::word(contents::body_at(file, k), 2);
-        k += 1;
-    }
-    days
-}
-
-// Past the check: 13, then areas and hours in order, and where nothing is refused the statement. `days` has a d for each area.
-pub fn settle_accepted(days: &[u32], file: &[u8], statement: &mut [i64]) -> Verdict
+// Past the check: 13, then areas and hours in order, for a statement of so many numbers.
+fn answer_accepted(days: &[u32], file: &[u8], room: usize) -> Verdict
     requires { ⌜ Settleable (now days) (now file) ⌝ }
-    ensures { λ r. ⌜ r ≡ acceptedRule (listed (now (days .entry))) (now (file .entry)) (length (now (statement .entry))) ⌝ }
-    ensures { λ r. ⌜ now (statement .exit) ≡ afterWith (listed (now (days .entry))) (now (file .entry)) r (now (statement .entry)) ⌝ }
+    ensures { λ r. ⌜ r ≡ acceptedRule (listed (now (days .entry)) (now (file .entry))) (now (file .entry)) room ⌝ }
 {
     let n = words::word(file, 2) as usize;
     let peak = words::word(file, 3);
     let needed = numbers_needed(file, n);
-    if statement.len() < needed {
+    if room < needed {
         return Verdict::RoomTooShort { needed };
     }
-    let v = check_areas(peak, days, file, n);
+    check_areas(peak, days, file, n)
+}
+
+// Past the check, and where nothing is refused the statement. `days` has a d for each area, or is empty, and each area has its own.
+pub fn settle_accepted(days: &[u32], file: &[u8], statement: &mut [i64]) -> Verdict
+    requires { ⌜ Settleable (now days) (now file) ⌝ }
+    ensures { λ r. ⌜ r ≡ acceptedRule (listed (now (days .entry)) (now (file .entry))) (now (file .entry)) (length (now (statement .entry))) ⌝ }
+    ensures { λ r. ⌜ now (statement .exit)
+        ≡ afterWith (listed (now (days .entry)) (now (file .entry))) (now (file .entry)) r (now (statement .entry)) ⌝ }
+{
+    let v = answer_accepted(days, file, statement.len());
     if verdict::number(v) != 0 {
         return v;
     }
+    let n = words::word(file, 2) as usize;
+    let peak = words::word(file, 3);
     write_areas(peak, days, file, n, statement);
     v
+}
+
+// What settling the file into a statement of so many numbers answers; nothing is written.
+pub fn answer(file: &[u8], room: usize) -> Verdict
+    ensures { λ r. ⌜ r ≡ settleOf (now (file .entry)) room ⌝ }
+{
+    let v = dayfile::check(file);
+    if verdict::number(v) != 0 {
+        return v;
+    }
+    let own = [0u32; 0];
+    answer_accepted(&own, file, room)
 }
 
 // Checks the whole file, then settles it into `statement`: area after area, 24 hours of its amounts and K charges each. A
@@ -202,7 +249,6 @@ pub fn settle(file: &[u8], statement: &mut [i64]) -> Verdict
     if verdict::number(v) != 0 {
         return v;
     }
-    let n = words::word(file, 2) as usize;
-    let days = file_days(file, n);
-    settle_accepted(&days, file, statement)
+    let own = [0u32; 0];
+    settle_accepted(&own, file, statement)
 }

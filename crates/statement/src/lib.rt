@@ -95,7 +95,7 @@ fn hour_charges(amount: i64, body: &[u8], at: usize, charges: &mut [i64])
 }
 
 // Hour h, which starts at word `at`, at the front of a block. `day` has the facts of the area's day.
-fn write_hour(terms: Terms, day: Day, body: &[u8], h: usize, at: usize, block: &mut [i64])
+pub fn write_hour(terms: Terms, day: Day, body: &[u8], h: usize, at: usize, block: &mut [i64])
     requires { ⌜ AtHour terms day (now body) h at ⌝ }
     requires { ⌜ hourNumbers (coordinatorsOf (now body)) ≤ length (now block) ⌝ }
     ensures { λ _. ⌜ now (block .exit) ≡ hourBlock terms (now (body .entry)) h

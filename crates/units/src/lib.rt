@@ -51,6 +51,14 @@ impl Quantity {
     {
         CentsOver100000(exact::product(self.0, price.0))
     }
+
+    // The same of a quantity that fits a signed word, as that of an interval does.
+    pub fn small_at_market_price(self, price: MarketPrice) -> CentsOver100000
+        requires { ⌜ self .0 < 2 ^ 31 ⌝ }
+        ensures { λ r. ⌜ r .0 ≡ pos (self .0) *ℤ price .0 ⌝ }
+    {
+        CentsOver100000(exact::signed_product(self.0 as i32, price.0))
+    }
 }
 
 impl CentsOver1000 {

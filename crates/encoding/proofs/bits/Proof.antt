@@ -1,42 +1,59 @@
 use borrow.Author.Needs.{needs}
-use Prim.Native.Nat.{_-_, _≤_}
+use Prim.Native.Nat.{_-_}
 use mathlib.Core.Bool.{true, false, true≢false}
-use mathlib.Core.Path.{_≡_, refl, ap, _∙_}
+use mathlib.Core.Path.{_≡_, refl}
 use native.Mathlib.Omega.{arith}
-use lib.IntN.{ℤ, pos, negsuc, natAbs}
-use lib.Signed.{ltZ}
+use lib.IntN.{ℤ, pos, negsuc, natAbs, _-ℤ_}
+use lib.Signed.{ltZ, mag}
 use borrow.Author.Tests.{ltb-true}
 use mir.Syntax.{w64}
-use mir.ValLaws.{toZ-ofZ}
+use mir.Val.{toZ, ofZ}
+use mir.ValLaws.{toZ-ofZ, toZ-pos}
+use Rattle.exact.proofs.Flipped.{below-zero, not-below-zero}
 use Rattle.encoding.specs.Encoding.{bitsOf}
 use Rattle.encoding.proofs.bits.Statement.{statement}
 use Rattle.encoding.proofs.bits.Tie as tie
 
-below : (z : ℤ) → ltZ z (pos 0) ≡ true → (1 ≤ natAbs z) × (18446744073709551615 - (natAbs z - 1) ≡ bitsOf z)
+below : (z : ℤ) → ltZ z (pos 0) ≡ true → 18446744073709551615 - mag z ≡ bitsOf z
 below (pos a) t = absurd (omega (arith, ltb-true a 0 t))
-below (negsuc k) t = (omega arith, omega arith)
+below (negsuc k) t = omega arith
 
 above : (z : ℤ) → ltZ z (pos 0) ≡ false → natAbs z ≡ bitsOf z
 above (pos a) t = refl
 above (negsuc k) t = absurd (true≢false t)
 
--- what the call and the test say of z
-size-is : (c : tie.After-absolute) → c .absolute .result ≡ natAbs (c .before .args .z)
-size-is c = c .absolute .ensures ∙ ap natAbs (toZ-ofZ w64 (c .before .args .z) (c .before .fits .z))
+same : (c : tie.Start) → toZ w64 (ofZ w64 (c .args .z)) ≡ c .args .z
+same c = toZ-ofZ w64 (c .args .z) (c .fits .z)
 
-is-below : (c : tie.Then1) → let z = c .before .before .args .z in (1 ≤ natAbs z) × (18446744073709551615 - (natAbs z - 1) ≡ bitsOf z)
-is-below c = let s = c .before .before in below (s .args .z) (rw (toZ-ofZ w64 (s .args .z) (s .fits .z)) at (c .if1 .taken))
+taken : (c : tie.Then1) → ltZ (c .before .args .z) (pos 0) ≡ true
+taken c = rw (same (c .before)) at (c .if1 .taken)
+
+left : (c : tie.Else1) → ltZ (c .before .args .z) (pos 0) ≡ false
+left c = rw (same (c .before)) at (c .if1 .left)
+
+flipped : (c : tie.Then1) → toZ w64 (ofZ w64 (negsuc 0 -ℤ toZ w64 (ofZ w64 (c .before .args .z)))) ≡ pos (mag (c .before .args .z))
+flipped c =
+    let z = c .before .args .z in rw (same (c .before), below-zero z (taken c) .0) (toZ-pos w64 (mag z) (c .before .fits .z .sfits))
 
 sub-result : tie.Need-sub-result
-sub-result c = omega (arith, size-is (c .before), is-below c .0)
+sub-result c = rw (same (c .before), below-zero (c .before .args .z) (taken c) .0) (record { sfits = c .before .fits .z .sfits })
+
+cast-result : tie.Need-cast-result
+cast-result c = rw (flipped c) (tt, record { fits = omega (arith, c .before .fits .z .sfits) })
+
+sub-result-2 : tie.Need-sub-result-2
+sub-result-2 c = rw (flipped c) (omega (arith, c .before .fits .z .sfits))
 
 returns : tie.Need-returns
-returns c = rw (size-is (c .before)) (is-below c .1)
+returns c = rw (flipped c) (below (c .before .args .z) (taken c))
+
+cast-result-2 : tie.Need-cast-result-2
+cast-result-2 c =
+    let k = not-below-zero (c .before .args .z) (left c) in
+    rw (same (c .before)) (k .0, record { fits = omega (arith, k .1, c .before .fits .z .sfits) })
 
 returns-2 : tie.Need-returns-2
-returns-2 c =
-    let z = c .before .before .args .z in
-    size-is (c .before) ∙ above z (rw (toZ-ofZ w64 z (c .before .before .fits .z)) at (c .if1 .left))
+returns-2 c = rw (same (c .before)) (above (c .before .args .z) (left c))
 
 pub bits-spec : {M : Type 1} → statement M
-bits-spec = tie.close (tie.spec (λ c κs. search needs) sub-result (λ c. search needs) returns returns-2)
+bits-spec = tie.close (tie.spec sub-result cast-result sub-result-2 returns cast-result-2 returns-2)

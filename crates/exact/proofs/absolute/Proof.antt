@@ -1,28 +1,15 @@
-use Prim.Native.Nat.{ℕ, suc, _+_, _<_}
-use mathlib.Core.Bool.{true, false, true≢false}
-use mathlib.Core.Path.{_≡_, refl, sym, ap}
+use Prim.Native.Nat.{_+_}
+use mathlib.Core.Path.{_≡_, sym}
 use native.Mathlib.Omega.{arith}
 use lib.Dec.{T}
-use lib.IntN.{ℤ, pos, negsuc, natAbs, _-ℤ_}
-use lib.Signed.{ltZ, mag, nonNeg}
-use borrow.Author.Tests.{le-ltb, ltb-true}
+use lib.IntN.{pos, negsuc, natAbs, _-ℤ_}
+use lib.Signed.{mag, nonNeg}
 use mir.Syntax.{w64}
 use mir.Val.{toZ, ofZ}
 use mir.ValLaws.{toZ-ofZ, toZ-pos}
+use Rattle.exact.proofs.Flipped.{below-zero, not-below-zero}
 use Rattle.exact.proofs.absolute.Statement.{statement}
 use Rattle.exact.proofs.absolute.Tie as tie
-
--- -1 - z of a number below 0 is how far it is from -1
-minus : (k : ℕ) → negsuc 0 -ℤ negsuc k ≡ pos k
-minus k = rw (le-ltb (suc k) 1 (omega arith)) (ap pos (omega arith))
-
-below-zero : (z : ℤ) → ltZ z (pos 0) ≡ true → (negsuc 0 -ℤ z ≡ pos (mag z)) × (natAbs z ≡ mag z + 1)
-below-zero (pos a) t = let h : a < 0 = ltb-true a 0 t in absurd (omega (arith, h))
-below-zero (negsuc k) t = (minus k, omega arith)
-
-not-below-zero : (z : ℤ) → ltZ z (pos 0) ≡ false → T (nonNeg z) × (natAbs z ≡ mag z)
-not-below-zero (pos a) t = (tt, refl)
-not-below-zero (negsuc k) t = absurd (true≢false t)
 
 same : (c : tie.Start) → toZ w64 (ofZ w64 (c .args .z)) ≡ c .args .z
 same c = toZ-ofZ w64 (c .args .z) (c .fits .z)

@@ -4,20 +4,19 @@ use denote.Ref.{now}
 use Prim.Native.Nat.{ℕ, _-_, _≤_, _<_}
 use mathlib.Core.Path.{_≡_, refl, ap, _∙_}
 use native.Mathlib.Omega.{arith}
-use lib.ListN.{length, set, length-set}
+use lib.ListN.{length, getD, set, length-set}
 use lib.Seq.{getD-set-same, getD-set-other}
 use Rattle.limits.specs.Ranges.{plainAreas}
 use Rattle.contents.specs.File.{areasOf, numberAt}
 use Rattle.marks.specs.Marks.{counted}
 use Rattle.recording.specs.Record.{entries, marksOf}
-use Rattle.settlement.specs.Settlement.{listed}
 use Rattle.settlement.proofs.Areas.{placed}
 use Rattle.recorded.proofs.recorded_days.Statement.{statement}
 use Rattle.recorded.proofs.recorded_days.Tie as tie
 
 abbrev Inv-loop : tie.InvT-loop
 Inv-loop given g file n days₀ k₀ days k =
-    (k ≤ n) × (length days ≡ plainAreas) × ((j : ℕ) → j < k → listed days j ≡ counted (marksOf (numberAt file j) (entries given)) g)
+    (k ≤ n) × (length days ≡ plainAreas) × ((j : ℕ) → j < k → getD days j 0 ≡ counted (marksOf (numberAt file j) (entries given)) g)
 
 abbrev μ-loop : tie.MeasureT-loop
 μ-loop given g file n days₀ k₀ days k = n - k
@@ -47,7 +46,7 @@ loop-again c =
     let inside : l .k < length (l .days) = omega (arith, l .inv .1, s .pre .0 .few, below i) in (
       omega arith,
       simp length-set (l .inv .1),
-      below-more (λ j. listed (set (l .days) (l .k) (c .count .result)) j ≡ of j) (l .k)
+      below-more (λ j. getD (set (l .days) (l .k) (c .count .result)) j 0 ≡ of j) (l .k)
           (λ j h. getD-set-other (l .days) (l .k) j _ 0 (λ e. omega arith) ∙ l .inv .2 j h)
           (getD-set-same (l .days) (l .k) _ 0 inside ∙ c .count .ensures
           ∙ ap (λ m. counted m (s .args .g)) (c .before .marks-of .ensures

@@ -12,7 +12,7 @@ use Rattle.record_check.specs.Left.{daysBetween}
 use Rattle.record_check.proofs.Left.{admitted, Before, record-before, days-few}
 use Rattle.settlement.specs.SoundFile.{SoundFile}
 use Rattle.settlement.specs.Settlement.{listed, daysBy}
-use Rattle.settlement.proofs.Accepted.{within, sound-file, settleable, rule-same, after-same}
+use Rattle.settlement.proofs.Accepted.{within, sound-file, settleable, in-list, rule-same, after-same}
 use Rattle.recorded.specs.Recorded.{recordDays}
 use Rattle.recorded.proofs.settle_after.Statement.{statement}
 use Rattle.recorded.proofs.settle_after.Tie as tie
@@ -27,11 +27,12 @@ before c = record-before _ _ (admitted _ _ (c .pre) .judged)
 days-are : (c : tie.After-recorded-days) →
     let s = c .before .before .before .before .before in
     let f = now (s .args .file) in
-    (k : ℕ) → k < areasOf f → listed (c .recorded-days .result) k ≡ daysBy (recordDays (s .args .given) (dayOf f)) f k
+    (k : ℕ) → k < areasOf f → listed (c .recorded-days .result) f k ≡ daysBy (recordDays (s .args .given) (dayOf f)) f k
 days-are c = λ k h.
     let s = c .before .before .before .before .before in
     let r = s .args .given in
-    c .recorded-days .ensures k h
+    in-list (c .recorded-days .result) (now (s .args .file)) k (omega (arith, h, sound s .few))
+    ∙ c .recorded-days .ensures k h
     ∙ ap (counted (marksOf (numberAt (now (s .args .file)) k) (entries r)))
     (c .before .gap .ensures ∙ ap (daysBetween r) (c .before .before .before .word .ensures))
 
@@ -57,7 +58,7 @@ settle-accepted-requires c κs =
     let s = d .before .before .before .before .before in
     let f = now (s .args .file) in
     settleable _ (daysBy (recordDays (s .args .given) (dayOf f)) f) f (sound s)
-    (record { each = λ k h. days-few (s .args .given) (dayOf f) (numberAt f k) (before s) }) (omega (arith, sound s .few)) (days-are d)
+    (record { each = λ k h. days-few (s .args .given) (dayOf f) (numberAt f k) (before s) }) (days-are d)
 
 returns : tie.Need-returns
 returns c =

@@ -13,12 +13,13 @@ use Rattle.contents.specs.File.{areasOf, bodyAt}
 use Rattle.statement.specs.Block.{areaNumbers, block}
 use Rattle.settlement.specs.Settlement.{neededTo, termsAt, statementTo, listed}
 use Rattle.settlement.proofs.Areas.{needed-more, needed-within, statement-more, statement-length, placed, head-inside, area-few, needed-small}
+use Rattle.settlement.proofs.Accepted.{terms-there}
 use Rattle.settlement.proofs.write_areas.Statement.{statement}
 use Rattle.settlement.proofs.write_areas.Tie as tie
 
 abbrev Inv-loop : tie.InvT-loop
 Inv-loop peak days file n statement₀ to₀ k₀ statement to k =
-    (k ≤ n) × (to ≡ neededTo file k) × (statement ≡ statementTo (listed days) file k ++ drop to statement₀)
+    (k ≤ n) × (to ≡ neededTo file k) × (statement ≡ statementTo (listed days file) file k ++ drop to statement₀)
     × (length statement ≡ length statement₀)
 
 abbrev μ-loop : tie.MeasureT-loop
@@ -49,11 +50,21 @@ loop-holds : tie.Need-loop-holds Inv-loop μ-loop
 unfolding neededTo statementTo
 loop-holds c = (omega arith, refl, refl, refl)
 
-shared-slice-read-area-numbers : tie.Need-shared-slice-read-area-numbers Inv-loop μ-loop
-shared-slice-read-area-numbers c = let i = c .before in omega (arith, start i .pre .0 .0 .enough, below i)
-
 body-at-requires : tie.Need-body-at-requires Inv-loop μ-loop
-body-at-requires c κs = let i = c .before in placed _ (start i .pre .0 .0 .sound) _ (below i)
+body-at-requires c κs = let i = c in placed _ (start i .pre .0 .0 .sound) _ (below i)
+
+terms-of-requires : tie.Need-terms-of-requires Inv-loop μ-loop
+terms-of-requires c κs =
+    let i = c .before in
+    rw (c .body-at .ensures .0) (head-inside _ (start i .pre .0 .0 .sound) _ (below i))
+
+terms-are : (c : tie.After-terms-of Inv-loop μ-loop) →
+    let i = c .before .before in
+    let f = now (start i .args .file) in
+    c .terms-of .result ≡ termsAt (listed (now (start i .args .days)) f) f (i .before .loop .k)
+terms-are c =
+    let s = start (c .before .before) in
+    terms-there (now (s .args .days)) (now (s .args .file)) _ _ _ _ (c .terms-of .ensures) (s .pre .0 .1 .1) (c .before .body-at .ensures .0)
 
 mul-write-area : tie.Need-mul-write-area Inv-loop μ-loop
 mul-write-area c = let r = room (c .before .before) in omega arith
@@ -68,7 +79,7 @@ write-area-requires : tie.Need-write-area-requires Inv-loop μ-loop
 write-area-requires c κs =
     let i = c .before .before .before in
     let s = start i .pre .0 .0 in
-    rw (c .before .body-at .ensures .0)
+    rw (terms-are (c .before), c .before .before .body-at .ensures .0)
     ((record { days = s .kept .each _ (below i) }, s .sound .body _ (below i)), simp (length-take, length-drop) (omega (arith, room i)))
 
 -- back from K of the area to its turn
@@ -78,12 +89,12 @@ turn c = c .before .before .before .before .before .before
 count : (c : tie.After-word Inv-loop μ-loop) →
     let i = turn c in
     c .word .result ≡ coordinatorsOf (bodyAt (now (start i .args .file)) (i .before .loop .k))
-count c = c .word .ensures ∙ ap coordinatorsOf (c .before .before .before .before .body-at .ensures .0)
+count c = c .word .ensures ∙ ap coordinatorsOf (c .before .before .before .before .before .body-at .ensures .0)
 
 word-requires : tie.Need-word-requires Inv-loop μ-loop
 word-requires c κs =
     let i = c .before .before .before .before .before in
-    rw (c .before .before .before .body-at .ensures .0) (head-inside _ (start i .pre .0 .0 .sound) _ (below i))
+    rw (c .before .before .before .before .body-at .ensures .0) (head-inside _ (start i .pre .0 .0 .sound) _ (below i))
 
 area-numbers-requires : tie.Need-area-numbers-requires Inv-loop μ-loop
 area-numbers-requires c κs = rw (count c) (area-few _ (start (turn c) .pre .0 .0 .sound) _ (below (turn c)))
@@ -106,13 +117,13 @@ loop-again c =
     let f = now (a .file) in
     let l = i .before .loop in
     let n = c .area-numbers .ensures ∙ ap areaNumbers (count (c .before)) in
-    let long = statement-length f (s .pre .0 .0 .sound) (listed (now (a .days))) (l .k) (omega (arith, below i)) in
+    let long = statement-length f (s .pre .0 .0 .sound) (listed (now (a .days)) f) (l .k) (omega (arith, below i)) in
     let b = c .before .before .before .before .before in (
       omega arith,
       rw n (omega (arith, needed-more f (l .k), l .inv .1)),
       rw n
-          (step (listed (now (a .days))) f (l .k) (l .to) (areaNumbers (coordinatorsOf (bodyAt f (l .k)))) (now (a .statement)) (l .statement) _
-          (long ∙ sym (l .inv .1)) (l .inv .2) (rw (b .body-at .ensures .0, s .pre .0 .1 .1) at (c .before .before .before .write-area .ensures))),
+          (step (listed (now (a .days)) f) f (l .k) (l .to) (areaNumbers (coordinatorsOf (bodyAt f (l .k)))) (now (a .statement)) (l .statement) _
+          (long ∙ sym (l .inv .1)) (l .inv .2) (rw (terms-are b, b .before .body-at .ensures .0) at (c .before .before .before .write-area .ensures))),
       omega arith,
     )
 
@@ -127,6 +138,6 @@ returns c =
 
 pub write-areas-spec : {M : Type 1} → statement M
 write-areas-spec =
-    tie.close (tie.spec Inv-loop μ-loop loop-holds (λ c. search needs) shared-slice-read-area-numbers body-at-requires mul-write-area sub-write-area
-    part-write-area-start (λ c. search needs) write-area-requires word-requires (λ c. search needs) area-numbers-requires add-to (λ c. search needs)
-    (λ c. search needs) loop-again same-length returns)
+    tie.close (tie.spec Inv-loop μ-loop loop-holds body-at-requires terms-of-requires mul-write-area sub-write-area part-write-area-start
+    (λ c. search needs) write-area-requires word-requires (λ c. search needs) area-numbers-requires add-to (λ c. search needs) (λ c. search needs)
+    loop-again same-length returns)

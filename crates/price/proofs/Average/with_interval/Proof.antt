@@ -19,13 +19,13 @@ use Rattle.price.proofs.Average.with_interval.Tie as tie
 made : ℤ → ℕ → ℕ → Average
 made value quantity count = record { value = record { 0 = value }; quantity = record { 0 = quantity }; count = count }
 
-abbrev entry : tie.After-at-market-price → tie.Start
+abbrev entry : tie.After-small-at-market-price → tie.Start
 entry c = c .before .before .before .before .before
 
-product : (c : tie.After-at-market-price) → let s = entry c .args in c .at-market-price .result .0 ≡ pos (s .quantity) *ℤ signedOf (s .price)
-product c = c .at-market-price .ensures ∙ ap (λ z. pos (entry c .args .quantity) *ℤ z) (got w32 (c .before .signed .ok) (c .before .signed .ensures))
+product : (c : tie.After-small-at-market-price) → let s = entry c .args in c .small-at-market-price .result .0 ≡ pos (s .quantity) *ℤ signedOf (s .price)
+product c = c .small-at-market-price .ensures ∙ ap (λ z. pos (entry c .args .quantity) *ℤ z) (got w32 (c .before .signed .ok) (c .before .signed .ensures))
 
-small : (c : tie.After-at-market-price) → natAbs (c .at-market-price .result .0) ≤ 2 ^ 55
+small : (c : tie.After-small-at-market-price) → natAbs (c .small-at-market-price .result .0) ≤ 2 ^ 55
 small c =
     let s = entry c in
     let p = signed-within (s .args .price) (omega arith) in
@@ -36,7 +36,7 @@ unfolding withInterval
 returns c = simp (eq-eqb _ _ (c .if1 .taken))
 
 plus-requires : tie.Need-plus-requires
-plus-requires c κs = let p = small c in within w64 _ (omega (arith, abs-add (entry c .args .self .value .0) (c .at-market-price .result .0)))
+plus-requires c κs = let p = small c in within w64 _ (omega (arith, abs-add (entry c .args .self .value .0) (c .small-at-market-price .result .0)))
 
 returns-2 : tie.Need-returns-2
 unfolding withInterval made

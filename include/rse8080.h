@@ -54,7 +54,7 @@ extern "C" {
  * The two buffers must not overlap, and nothing else may write to them during the call. Neither needs an alignment. A length
  * of 0 is fine, and the pointer may then be null. A length must not be more than PTRDIFF_MAX, as of any object.
  *
- * The call uses no heap, no file, no global, and less than 20 KiB of stack (tests/host/run reads it off the machine code),
+ * The call uses no heap, no file, no global, and less than 8 KiB of stack (tests/host/run reads it off the machine code),
  * so it may be called from several threads at once on separate statements. */
 uint64_t rse8080_settle(const uint8_t *file, size_t file_len, uint8_t *statement, size_t statement_len);
 

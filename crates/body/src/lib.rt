@@ -126,7 +126,7 @@ pub fn next_hour(load: usize, count: usize, h: usize, at: usize) -> usize
 }
 
 fn hours(start: usize, body: &[u8], load: usize, count: usize) -> Verdict
-    requires { ⌜ (start < 4294967296) × (4 * bodyWords load count ≤ length (now body)) ⌝ }
+    requires { ⌜ (start < 4294967296) × ((count < 4294967296) × (4 * bodyWords load count ≤ length (now body))) ⌝ }
     ensures { λ r. ⌜ r ≡ hoursRule start (now (body .entry)) load count ⌝ }
 {
     let mut at = first_hour(load, count);

@@ -1,7 +1,7 @@
 -- The laws of "the first that breaks its rule". They go by the number of a verdict alone, so a new case touches none of them.
 use Prim.Native.Nat.{ℕ, zero, suc, _+_, _-_, _<_, _≤_}
 use mathlib.Core.Path.{_≡_, refl, sym, ap, ap₂, _∙_, subst}
-use mathlib.Core.Bool.{Bool, true, false, _&&_}
+use mathlib.Core.Bool.{Bool, true, false, cond, _&&_, and-true, and-assoc}
 use mathlib.Core.Logic.{dite}
 use native.Mathlib.Decide.{ℕ-discrete}
 use native.Mathlib.Omega.{arith}
@@ -35,12 +35,17 @@ module _ (first second : Verdict) where
   unfolding _orElse_
   or-stop h = simp (ne-eqb _ _ h)
 
-  pub or-first : numberOf (first orElse second) ≡ 0 → numberOf first ≡ 0
-  or-first z = by (eqb (numberOf first) 0) refl
+  -- two parts accept exactly if each does
+  pub or-accepts : eqb (numberOf (first orElse second)) 0 ≡ (eqb (numberOf first) 0 && eqb (numberOf second) 0)
+  unfolding _orElse_
+  or-accepts = by (eqb (numberOf first) 0) refl
     where
-      by : (t : Bool) → eqb (numberOf first) 0 ≡ t → numberOf first ≡ 0
-      by true e = eqb-true _ _ e
-      by false e = ap numberOf (sym (or-stop (eqb-false _ _ e))) ∙ z
+      by : (t : Bool) → eqb (numberOf first) 0 ≡ t → eqb (numberOf (cond t second first)) 0 ≡ (t && eqb (numberOf second) 0)
+      by true e = refl
+      by false e = e
+
+  pub or-first : numberOf (first orElse second) ≡ 0 → numberOf first ≡ 0
+  or-first z = eqb-true _ _ (both _ _ (sym or-accepts ∙ eq-eqb _ _ z) .0)
 
   pub or-second : numberOf (first orElse second) ≡ 0 → numberOf second ≡ 0
   or-second z = ap numberOf (sym (or-next (or-first z))) ∙ z
@@ -71,6 +76,19 @@ scan-all part k (suc n) z (suc i) h =
 -- every part accepts
 pub scan-each : (part : ℕ → Verdict) (n : ℕ) → numberOf (scan part 0 n) ≡ 0 → (i : ℕ) → i < n → numberOf (part i) ≡ 0
 scan-each part n z i h = subst (λ (j : ℕ). numberOf (part j) ≡ 0) (zero-add i) (scan-all part 0 n z i h)
+
+-- one part more accepts exactly if those before it do and it does
+scan-more : (part : ℕ → Verdict) (k n : ℕ)
+    → eqb (numberOf (scan part k (suc n))) 0 ≡ (eqb (numberOf (scan part k n)) 0 && eqb (numberOf (part (k + n))) 0)
+unfolding scan
+scan-more part k zero = rw (or-accepts, and-true, add-zero)
+scan-more part k (suc n) =
+    let e : k + suc n ≡ suc k + n = omega arith in
+    rw (or-accepts (part k) (scan part (suc k) (suc n)), or-accepts (part k) (scan part (suc k) n), scan-more part (suc k) n, e, and-assoc)
+
+pub scan-accepts : (part : ℕ → Verdict) (n : ℕ)
+    → eqb (numberOf (scan part 0 (n + 1))) 0 ≡ (eqb (numberOf (scan part 0 n)) 0 && eqb (numberOf (part n)) 0)
+scan-accepts part n = rw (add-one, scan-more part 0 n, zero-add)
 
 -- scans whose parts are the same
 pub scan-same : (part part′ : ℕ → Verdict) (k n : ℕ) → ((i : ℕ) → i < k + n → part i ≡ part′ i) → scan part k n ≡ scan part′ k n

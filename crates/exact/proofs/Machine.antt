@@ -1,10 +1,10 @@
 -- What the machine holds of a signed number: which numbers fit, and what is read back from the bits.
-use mathlib.Core.Path.{_≡_, _∙_}
+use mathlib.Core.Path.{_≡_, sym, ap, _∙_}
 use Prim.Native.Nat.{_<_, _≤_, _^_}
 use native.Mathlib.Nat.{le-refl, le-suc, lt-of-le-of-lt}
 use lib.IntN.{ℤ, pos, negsuc, natAbs}
 use lib.Signed.{mag}
-use mir.Syntax.{Width}
+use mir.Syntax.{Width, w64}
 use mir.Val.{SFits, ofZ, toZ, hbits}
 use mir.ValLaws.{toZ-ofZ}
 
@@ -19,3 +19,7 @@ within w z h = record { sfits = lt-of-le-of-lt (mag-le z) h }
 -- what is read back of a call's result: `got w64 (c .f .ok) (c .f .ensures)`
 pub got : (w : Width) {r z : ℤ} → mag r < 2 ^ hbits w → r ≡ z → toZ w (ofZ w r) ≡ z
 got w {r} k e = toZ-ofZ w r (record { sfits = k }) ∙ e
+
+-- what the code finds equal to 0 is 0: it compares the bits
+pub zero-bits : {z : ℤ} → SFits w64 z → ofZ w64 z ≡ 0 → z ≡ pos 0
+zero-bits {z} f e = sym (toZ-ofZ w64 z f) ∙ ap (toZ w64) e

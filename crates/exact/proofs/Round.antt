@@ -72,19 +72,18 @@ round-neg (pos zero) b = ap pos (half-zero b) ∙ sym (ap (λ n. negℤ (pos n))
 round-neg (pos (suc a)) b = refl
 round-neg (negsuc a) b = sym (negℤ-negℤ (pos (halfUp (suc a) b)))
 
+-- n is R(a / b) where n × b is at most half of b above a, and less than half below it
+pub half-is : (a b n : ℕ) → 2 * (n * b) ≤ 2 * a + b → 2 * a + b < 2 * (n * b) + 2 * b → halfUp a b ≡ n
+half-is a b n low high = div-eq-of-lt-le (2 * b) (omega (arith, mul-left-comm n 2 b)) (omega (arith, mul-left-comm (n + 1) 2 b, suc-mul n b))
+
 -- ---- R by quotient and remainder
 
 pub half-up : (a b : ℕ) → 0 < b → b ≤ 2 * (a % b) → halfUp a b ≡ a / b + 1
 half-up a b h k =
-    div-eq-of-lt-le (2 * b)
-    (omega (arith, div-add-mod' a b, mul-left-comm (a / b + 1) 2 b, suc-mul (a / b) b))
-    (omega (arith, div-add-mod' a b, mod-lt a h, mul-left-comm (a / b + 1 + 1) 2 b, suc-mul (a / b) b))
+    half-is a b (a / b + 1) (omega (arith, div-add-mod' a b, suc-mul (a / b) b)) (omega (arith, div-add-mod' a b, mod-lt a h, suc-mul (a / b) b))
 
 pub half-stay : (a b : ℕ) → 2 * (a % b) < b → halfUp a b ≡ a / b
-half-stay a b k =
-    div-eq-of-lt-le (2 * b)
-    (omega (arith, div-add-mod' a b, mul-left-comm (a / b) 2 b))
-    (omega (arith, div-add-mod' a b, mul-left-comm (a / b + 1) 2 b, suc-mul (a / b) b))
+half-stay a b k = half-is a b (a / b) (omega (arith, div-add-mod' a b)) (omega (arith, div-add-mod' a b))
 
 -- ---- R of an exact multiple is the multiple
 

@@ -1,5 +1,7 @@
 pub mod SomeDemand
 pub mod Turned
+pub mod ByRates
+pub mod Running
 pub mod Sharing
 pub mod AddsUp
 pub mod WithinACent

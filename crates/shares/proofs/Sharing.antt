@@ -1,21 +1,25 @@
--- R(A × C / T), and what the loop of `share_demands` holds: i charges are written, up to running demand c.
-use mathlib.Core.Path.{_≡_}
+-- R(A × C / T), and what the loops of `share_demands` and `share_words` hold: i charges are written, up to running demand c.
+use mathlib.Core.Path.{_≡_, sym, ap₂, _∙_}
 use mathlib.Core.List.{List, _++_}
 use Prim.Native.Nat.{ℕ, suc, _+_, _*_, _≤_, _<_, _^_}
-use native.Mathlib.Nat.{mul-add, mul-le-mul}
+use native.Mathlib.Nat.{mul-add, mul-le-mul, mul-le-mul-left}
 use native.Mathlib.Omega.{arith}
 use lib.IntN.{ℤ, pos, negsuc, natAbs, _-ℤ_, *ℤ-zero}
-use lib.ListN.{length, getD, drop, set, length-set, drop-of-length-le}
+use lib.ListN.{length, drop, set, length-set, drop-of-length-le}
+use mir.Syntax.{w64}
+use mir.Val.{SFits, toZ, ofZ}
+use mir.ValLaws.{toZ-ofZ}
 use Rattle.exact.specs.Round.{roundDiv, halfUp}
+use Rattle.exact.proofs.Machine.{within}
 use Rattle.exact.proofs.Magnitude.{abs-neg}
 use Rattle.exact.proofs.Difference.{minus-sub, abs-sub-lt}
 use Rattle.exact.proofs.Round.{abs-round, round-zero}
 use Rattle.exact.proofs.Filling.{Filling, fill-start, fill-step, fill-end, drop-next}
 use Rattle.exact.specs.Total.{total}
-use Rattle.exact.proofs.Totals.{total-drop}
 use Rattle.limits.specs.Ranges.{mostDemand, mostAmount}
-use Rattle.shares.specs.Shares.{upTo, sharesFrom}
+use Rattle.shares.specs.Shares.{upTo, sharesFrom, shares}
 use Rattle.shares.proofs.Turned.{step-neg}
+use Rattle.shares.proofs.Running.{DemandAt, Running, running-start, running-within, running-step}
 
 -- an amount and a total in range: their product fits 64 bits
 pub share-fits : (amount : ℤ) (t : ℕ) → natAbs amount ≤ mostAmount → t ≤ mostDemand → natAbs amount * t < 2 ^ 63
@@ -39,29 +43,57 @@ charge-within bound (negsuc a) t c d h =
 pub up-to-zero : (amount : ℤ) (t : ℕ) → upTo amount t 0 ≡ pos 0
 up-to-zero amount t = rw (*ℤ-zero amount) (round-zero t)
 
-pub record Shared (amount : ℤ) (ds : List ℕ) (out₀ : List ℤ) (t : ℕ) (out : List ℤ) (c i : ℕ) : Type 0 where
-  pub within : i ≤ length ds
+pub record Shared (amount : ℤ) (ds : List ℕ) (out₀ : List ℤ) (t : ℕ) (out : List ℤ) (c : ℕ) (before : ℤ) (i : ℕ) : Type 0 where
+  pub whole : t ≡ total ds
+  pub few : t ≤ mostDemand
+  pub small : natAbs amount * t < 2 ^ 63
   pub room : length ds ≤ length out
-  pub left : c + total (drop i ds) ≡ t
+  pub running : Running ds c i
+  pub carried : before ≡ upTo amount t c
   pub fill : Filling (sharesFrom amount t 0 ds) out₀ out (sharesFrom amount t c (drop i ds)) i
 
-pub shared-start : (amount : ℤ) (ds : List ℕ) (out : List ℤ) → length ds ≤ length out → Shared amount ds out (total ds) out 0 0
-shared-start amount ds out h =
-    record { within = omega arith; room = h; left = omega arith; fill = fill-start (sharesFrom amount (total ds) 0 ds) out }
+pub shared-start : (amount : ℤ) (ds : List ℕ) (out : List ℤ) {t n : ℕ} → t ≡ total ds → total ds ≤ mostDemand → natAbs amount * total ds < 2 ^ 63
+    → length ds ≡ n → n ≤ length out → Shared amount ds out t out 0 (pos 0) 0
+shared-start amount ds out {t} e few small long h =
+    record {
+      whole = e;
+      few = rw e few;
+      small = rw e small;
+      room = omega arith;
+      running = running-start ds;
+      carried = sym (up-to-zero amount t);
+      fill = fill-start (sharesFrom amount t 0 ds) out;
+    }
 
-module _ {amount : ℤ} {ds : List ℕ} {out₀ : List ℤ} {t : ℕ} {out : List ℤ} {c i : ℕ} (s : Shared amount ds out₀ t out c i) where
-  pub shared-step : i < length ds → Shared amount ds out₀ t (set out i (upTo amount t (c + getD ds i 0) -ℤ upTo amount t c)) (c + getD ds i 0) (i + 1)
-  unfolding sharesFrom
-  shared-step h =
-      record {
-        within = omega arith;
-        room = rw length-set (s .room);
-        left = omega (arith, total-drop ds i h);
-        fill = fill-step (upTo amount t (c + getD ds i 0) -ℤ upTo amount t c) (rw (drop-next ds i 0 h) at (s .fill)) (omega arith);
-      }
+module _ {amount : ℤ} {ds : List ℕ} {out₀ out : List ℤ} {t c i : ℕ} {before : ℤ} (s : Shared amount ds out₀ t out c before i) where
+  module _ {d : ℕ} (at : DemandAt ds i d) where
+    pub next-within : c + d ≤ t
+    next-within = omega (arith, running-within (s .running) at, s .whole)
 
-  pub shared-end : length ds ≤ i → out ≡ sharesFrom amount t 0 ds ++ drop (length ds) out₀
-  unfolding sharesFrom
-  shared-end h =
-      let e : i ≡ length ds = omega arith in
-      rw e at (fill-end (rw (drop-of-length-le ds h) at (s .fill)))
+    -- what is stored: R up to the next demand less R up to the one before it
+    module _ {next : ℤ} (e : next ≡ upTo amount t (c + d)) where
+      pub charge-fits : SFits w64 (next -ℤ before)
+      charge-fits =
+          rw (e, s .carried) (within w64 _ (charge-within _ amount t c d (omega (arith, mul-le-mul-left (natAbs amount) next-within, s .small))))
+
+      pub shared-step : Shared amount ds out₀ t (set out i (toZ w64 (ofZ w64 (next -ℤ before)))) (c + d) next (i + 1)
+      unfolding sharesFrom
+      shared-step =
+          let charge = upTo amount t (c + d) -ℤ upTo amount t c in
+          let stored : toZ w64 (ofZ w64 (next -ℤ before)) ≡ charge = toZ-ofZ w64 _ charge-fits ∙ ap₂ _-ℤ_ e (s .carried) in
+          rw stored
+          (record {
+            whole = s .whole;
+            few = s .few;
+            small = s .small;
+            room = rw length-set (s .room);
+            running = running-step (s .running) at;
+            carried = e;
+            fill = fill-step charge (rw (drop-next ds i 0 (at .0), ← at .1) at (s .fill)) (omega (arith, s .room));
+          })
+
+  pub shared-end : {n : ℕ} → length ds ≡ n → n ≤ i → out ≡ shares amount ds ++ drop n out₀
+  unfolding sharesFrom shares
+  shared-end {n} long h =
+      let e : i ≡ n = omega (arith, s .running .within) in
+      rw (s .whole, e) at (fill-end (rw (drop-of-length-le ds {i = i} (omega arith)) at (s .fill)))

@@ -1,13 +1,20 @@
-// Sharing one amount among coordinators by their running demands, over number slices.
+// Sharing one amount among coordinators by their running demands, over number slices and over words of a file.
 ghost use mathlib.Core.Path.{_≡_};
 ghost use mathlib.Core.List.{_++_};
-ghost use Prim.Native.Nat.{_*_, _≤_, _<_, _^_};
-ghost use mathlib.Core.Bool.{_||_};
-ghost use lib.Dec.{eqb, ltb};
-ghost use lib.IntN.{natAbs};
+ghost use Prim.Native.Nat.{_+_, _*_, _≤_, _<_, _^_};
+ghost use mathlib.Core.Bool.{cond, _||_};
+ghost use lib.Dec.{eqb, leb, ltb};
+ghost use lib.IntN.{pos, natAbs};
 ghost use lib.ListN.{length, drop};
+ghost use Rattle.exact.specs.Round.{halfUp};
 ghost use Rattle.exact.specs.Total.{total};
+ghost use Rattle.words.specs.Bytes.{wordsFrom};
+ghost use Rattle.limits.specs.Ranges.{mostDemand};
 ghost use Rattle.shares.specs.Shares.{upTo, shares};
+ghost use Rattle.shares.specs.Rates.{ratesOf};
+
+// Into so many parts a rate divides a cent: 2^36, so that dividing by them is a shift.
+const RATE_PARTS: u64 = 68719476736;
 
 pub fn sum_of_demands(demands: &[u32]) -> u32
     requires { ⌜ total (now demands) < 2 ^ 32 ⌝ }
@@ -22,9 +29,67 @@ pub fn sum_of_demands(demands: &[u32]) -> u32
     sum
 }
 
-// R(A × C / T) at running demand C; 0 where there is no demand. Most hours have no amount, and are spared the division.
-fn up_to(amount: i64, whole: u32, running: u32) -> i64
-    requires { ⌜ natAbs amount * running < 2 ^ 63 ⌝ }
+// The sum of the demands in `count` words of a file, from word `from` on.
+pub fn sum_of_words(bytes: &[u8], from: usize, count: usize) -> u32
+    requires { ⌜ (4 * (from + count) ≤ length (now bytes)) × (total (wordsFrom (now bytes) from count) ≤ mostDemand) ⌝ }
+    ensures { λ r. ⌜ r ≡ total (wordsFrom (now (bytes .entry)) from count) ⌝ }
+{
+    let mut sum: u32 = 0;
+    let mut i: usize = 0;
+    while i < count {
+        sum += words::word(bytes, from + i);
+        i += 1;
+    }
+    sum
+}
+
+// What an amount A comes to for each thousandth of a demand T: whole cents, and 2^36ths of a cent of the rest. Two divisions for all of an hour's
+// charges.
+pub struct Rates {
+    pub each: u64,
+    pub part: u64,
+}
+
+// Most hours have no amount, and are spared the divisions.
+pub fn rates_of(amount: i64, whole: u32) -> Rates
+    requires { ⌜ whole ≤ mostDemand ⌝ }
+    ensures { λ r. ⌜ r ≡ ratesOf amount whole ⌝ }
+{
+    if whole == 0 {
+        return Rates { each: 0, part: 0 };
+    }
+    if amount == 0 {
+        return Rates { each: 0, part: 0 };
+    }
+    let size = exact::absolute(amount);
+    let divisor = whole as u64;
+    let each = size / divisor;
+    let part = size % divisor * RATE_PARTS / divisor;
+    Rates { each, part }
+}
+
+// 1 where a number has reached a bound, and 0 below it: no branch, since the processor could not foretell it.
+fn reached(bound: u64, number: u64) -> u64
+    ensures { λ r. ⌜ (r ≡ cond (leb bound number) 1 0) × (r ≤ 1) ⌝ }
+{
+    (bound <= number) as u64
+}
+
+// R(|A| × C / T) at running demand C, without a division by T: the guess is at most one too small, so half of T and three halves tell what it lacks.
+fn nearest(size: u64, whole: u32, rates: Rates, running: u32) -> u64
+    requires { ⌜ (rates ≡ ratesOf (pos size) whole) × ((0 < whole) × ((running ≤ whole) × ((whole ≤ mostDemand) × (size * whole < 2 ^ 63)))) ⌝ }
+    ensures { λ r. ⌜ r ≡ halfUp (size * running) whole ⌝ }
+{
+    let divisor = whole as u64;
+    let demand = running as u64;
+    let guess = rates.each * demand + rates.part * demand / RATE_PARTS;
+    let twice = 2 * (size * demand - guess * divisor);
+    guess + reached(divisor, twice) + reached(3 * divisor, twice)
+}
+
+// R(A × C / T) at running demand C; 0 where there is no demand.
+pub fn up_to(amount: i64, whole: u32, rates: Rates, running: u32) -> i64
+    requires { ⌜ (rates ≡ ratesOf amount whole) × ((running ≤ whole) × ((whole ≤ mostDemand) × (natAbs amount * whole < 2 ^ 63))) ⌝ }
     ensures { λ r. ⌜ r ≡ upTo amount whole running ⌝ }
 {
     if whole == 0 {
@@ -33,22 +98,48 @@ fn up_to(amount: i64, whole: u32, running: u32) -> i64
     if amount == 0 {
         return 0;
     }
-    exact::round_div(exact::times(amount, running), whole)
+    let next = nearest(exact::absolute(amount), whole, rates, running) as i64;
+    if amount < 0 {
+        return 0 - next;
+    }
+    next
 }
 
 // One rounding a coordinator: the one up to the coordinator before is carried on.
 pub fn share_demands(amount: i64, demands: &[u32], charges: &mut [i64])
-    requires { ⌜ (natAbs amount * total (now demands) < 2 ^ 63) × ((total (now demands) < 2 ^ 32) × (length (now demands) ≤ length (now charges))) ⌝ }
+    requires { ⌜ (natAbs amount * total (now demands) < 2 ^ 63) × ((total (now demands) ≤ mostDemand) × (length (now demands) ≤ length (now charges))) ⌝ }
     ensures { λ _. ⌜ now (charges .exit) ≡ shares amount (now (demands .entry)) ++ drop (length (now (demands .entry))) (now (charges .entry)) ⌝ }
 {
     let whole = sum_of_demands(demands);
+    let rates = rates_of(amount, whole);
     let mut running: u32 = 0;
     let mut before: i64 = 0;
     let mut i: usize = 0;
     while i < demands.len() {
         let demand = demands[i];
         running += demand;
-        let next = up_to(amount, whole, running);
+        let next = up_to(amount, whole, rates, running);
+        charges[i] = next - before;
+        before = next;
+        i += 1;
+    }
+}
+
+// The same over the demands in `count` words of a file, from word `from` on.
+pub fn share_words(amount: i64, bytes: &[u8], from: usize, count: usize, charges: &mut [i64])
+    requires { ⌜ (natAbs amount * total (wordsFrom (now bytes) from count) < 2 ^ 63) × ((total (wordsFrom (now bytes) from count) ≤ mostDemand)
+        × ((4 * (from + count) ≤ length (now bytes)) × (count ≤ length (now charges)))) ⌝ }
+    ensures { λ _. ⌜ now (charges .exit) ≡ shares amount (wordsFrom (now (bytes .entry)) from count) ++ drop count (now (charges .entry)) ⌝ }
+{
+    let whole = sum_of_words(bytes, from, count);
+    let rates = rates_of(amount, whole);
+    let mut running: u32 = 0;
+    let mut before: i64 = 0;
+    let mut i: usize = 0;
+    while i < count {
+        let demand = words::word(bytes, from + i);
+        running += demand;
+        let next = up_to(amount, whole, rates, running);
         charges[i] = next - before;
         before = next;
         i += 1;

@@ -5,7 +5,7 @@ ghost use mathlib.Core.Path.{_≡_};
 ghost use mathlib.Core.List.{_∷_, _++_};
 ghost use Prim.Native.Nat.{_+_, _*_, _≤_};
 ghost use lib.IntN.{natAbs};
-ghost use lib.ListN.{length, take, drop};
+ghost use lib.ListN.{length, drop};
 ghost use Rattle.exact.specs.Total.{total};
 ghost use Rattle.words.specs.Bytes.{wordsFrom};
 ghost use Rattle.limits.specs.Ranges.{mostDemand, mostCoordinators, mostAmount, plainPoints};
@@ -35,20 +35,6 @@ pub fn area_numbers(count: usize) -> usize
     limits::DAY_HOURS * hour_numbers(count)
 }
 
-// The demands of an hour, of which there are `count`.
-fn demands_from(body: &[u8], from: usize, count: usize) -> [u32; limits::MOST_COORDINATORS]
-    requires { ⌜ (count ≤ mostCoordinators) × (4 * (from + count) ≤ length (now body)) ⌝ }
-    ensures { λ r. ⌜ take count r ≡ wordsFrom (now (body .entry)) from count ⌝ }
-{
-    let mut demands = [0u32; limits::MOST_COORDINATORS];
-    let mut i: usize = 0;
-    while i < count {
-        demands[i] = words::word(body, from + i);
-        i += 1;
-    }
-    demands
-}
-
 // The charges of an hour at the front of a block.
 fn write_charges(
     kind: u32,
@@ -68,8 +54,7 @@ fn write_charges(
         charges[0] = amount;
         return;
     }
-    let demands = demands_from(body, from, count);
-    shares::share_demands(amount, &demands[..count], charges);
+    shares::share_words(amount, body, from, count, charges);
 }
 
 // The amounts of an hour at the front of a block.

@@ -17,12 +17,8 @@ module _ (bytes : List ℕ) where
   words-last i (suc n) =
       ap (λ l. wordAt bytes i ∷ l) (words-last (suc i) n ∙ ap (λ j. wordsFrom bytes (suc i) n ++ (wordAt bytes j ∷ [])) (omega arith))
 
-  pub words-more : (i n : ℕ) → wordsFrom bytes i (n + 1) ≡ wordsFrom bytes i n ++ (wordAt bytes (i + n) ∷ [])
+  words-more : (i n : ℕ) → wordsFrom bytes i (n + 1) ≡ wordsFrom bytes i n ++ (wordAt bytes (i + n) ∷ [])
   words-more i n = ap (wordsFrom bytes i) (add-one n) ∙ words-last i n
-
-  pub no-words : (i : ℕ) → wordsFrom bytes i 0 ≡ []
-  unfolding wordsFrom
-  no-words i = refl
 
   -- the running demand with one demand more
   pub total-more : (i n : ℕ) → total (wordsFrom bytes i (n + 1)) ≡ total (wordsFrom bytes i n) + wordAt bytes (i + n)

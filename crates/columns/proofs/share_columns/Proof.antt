@@ -1,7 +1,6 @@
 use borrow.Author.Needs.{needs}
 use denote.Ref.{now}
 use mathlib.Core.Path.{_≡_, sym, ap, _∙_}
-use native.Mathlib.Omega.{arith}
 use borrow.Author.Tests.{eq-eqb, ne-eqb}
 use lib.ListN.{length}
 use mir.Syntax.{w64}
@@ -29,7 +28,7 @@ share-demands-requires c κs =
     let a = accepted (c .before) in
     let s = c .before .before .before .before .before .before in
     rw (toZ-ofZ w64 _ (s .fits .amount))
-    (share-fits (s .args .amount) _ (a .amount-within) (a .total-within), (omega arith, a .room-enough))
+    (share-fits (s .args .amount) _ (a .amount-within) (a .total-within), (a .total-within, a .room-enough))
 
 returns-2 : tie.Need-returns-2
 returns-2 c =

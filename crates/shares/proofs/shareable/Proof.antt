@@ -1,11 +1,11 @@
 use Prim.Native.Nat.{zero, suc}
-use mathlib.Core.Path.{_≡_, refl, sym, ap, _∙_}
+use mathlib.Core.Path.{_≡_, refl, ap}
 use native.Mathlib.Omega.{arith}
 use borrow.Author.Tests.{eq-eqb, ne-eqb}
 use lib.IntN.{ℤ, pos, negsuc, natAbs}
 use mir.Syntax.{w64}
-use mir.Val.{toZ, ofZ}
-use mir.ValLaws.{toZ-ofZ}
+use mir.Val.{ofZ}
+use Rattle.exact.proofs.Machine.{zero-bits}
 use Rattle.shares.proofs.shareable.Statement.{statement}
 use Rattle.shares.proofs.shareable.Tie as tie
 
@@ -16,9 +16,7 @@ some (pos (suc n)) h e = omega arith
 some (negsuc n) h e = omega arith
 
 returns : tie.Need-returns
-returns c =
-    let z = sym (toZ-ofZ w64 _ (c .before .fits .amount)) ∙ ap (toZ w64) (c .if1 .taken) in
-    simp (eq-eqb _ _ (ap natAbs z))
+returns c = simp (eq-eqb _ _ (ap natAbs (zero-bits (c .before .fits .amount) (c .if1 .taken))))
 
 returns-2 : tie.Need-returns-2
 returns-2 c = simp (ne-eqb _ _ (some (c .before .args .amount) (c .if1 .left)))

@@ -1,15 +1,21 @@
 use borrow.Author.Needs.{needs}
-use Prim.Native.Nat.{ℕ, suc}
-use mathlib.Core.Path.{_≡_, sym, ap, _∙_}
-use native.Mathlib.Nat.{zero-mul, mul-zero, div-zero}
-use lib.IntN.{ℤ, pos, negsuc, negℤ, _*ℤ_}
+use Prim.Native.Nat.{ℕ, suc, _*_, _<_, _^_}
+use mathlib.Core.Bool.{true, false, true≢false}
+use mathlib.Core.Path.{_≡_, refl, sym, ap, _∙_}
+use native.Mathlib.Nat.{zero-mul, mul-zero, div-zero, mul-le-mul-left}
+use native.Mathlib.Omega.{arith}
+use borrow.Author.Tests.{ltb-true}
+use lib.IntN.{ℤ, pos, negsuc, negℤ, natAbs, _-ℤ_, _*ℤ_, +ℤ-idl}
+use lib.Signed.{ltZ}
 use mir.Syntax.{w64}
-use mir.Val.{toZ}
-use mir.ValLaws.{toZ-ofZ}
+use mir.Val.{SFits, toZ}
+use mir.ValLaws.{toZ-ofZ, toZ-pos}
 use Rattle.exact.specs.Round.{roundDiv, halfUp}
-use Rattle.exact.proofs.Round.{round-zero}
 use Rattle.exact.proofs.Magnitude.{abs-mul}
-use Rattle.exact.proofs.Machine.{within, got}
+use Rattle.exact.proofs.Machine.{within, zero-bits}
+use Rattle.exact.proofs.Round.{round-zero, round-neg, abs-round}
+use Rattle.shares.specs.Shares.{upTo}
+use Rattle.shares.specs.Rates.{ratesOf}
 use Rattle.shares.proofs.up_to.Statement.{statement}
 use Rattle.shares.proofs.up_to.Tie as tie
 
@@ -24,25 +30,82 @@ by-zero (negsuc a) = ap (λ n. negℤ (pos n)) (half-by-zero (suc a))
 zero-times : (n : ℕ) → pos 0 *ℤ pos n ≡ pos 0
 zero-times n = ap pos (zero-mul n)
 
+-- R by the size of the amount, and by its sign
+below : (amount : ℤ) (t c : ℕ) → ltZ amount (pos 0) ≡ true → pos 0 -ℤ pos (halfUp (natAbs amount * c) t) ≡ upTo amount t c
+unfolding roundDiv
+below (pos a) t c e = absurd (omega (arith, ltb-true a 0 e))
+below (negsuc a) t c e = +ℤ-idl (negℤ (pos (halfUp (suc a * c) t))) ∙ sym (round-neg (pos (suc a * c)) t)
+
+above : (amount : ℤ) (t c : ℕ) → ltZ amount (pos 0) ≡ false → pos (halfUp (natAbs amount * c) t) ≡ upTo amount t c
+unfolding roundDiv
+above (pos a) t c e = refl
+above (negsuc a) t c e = absurd (true≢false e)
+
+same-rates : (amount : ℤ) (t size : ℕ) → size ≡ natAbs amount → ratesOf (pos size) t ≡ ratesOf amount t
+unfolding ratesOf
+same-rates amount t size e = rw e
+
+-- what R is rounded from fits, and so does R
+product-fits : (s : tie.Start) → natAbs (s .args .amount) * s .args .running < 2 ^ 63
+product-fits s = omega (arith, mul-le-mul-left (natAbs (s .args .amount)) (s .pre .1 .0))
+
+result-fits : (s : tie.Start) → SFits w64 (upTo (s .args .amount) (s .args .whole) (s .args .running))
+result-fits s =
+    let z = s .args .amount in
+    within w64 _ (omega (arith, product-fits s, abs-round (z *ℤ pos (s .args .running)) (s .args .whole), abs-mul z (pos (s .args .running))))
+
+size-is : (c : tie.After-absolute) → c .absolute .result ≡ natAbs (c .before .before .before .args .amount)
+size-is c = rw (toZ-ofZ w64 _ (c .before .before .before .fits .amount)) at (c .absolute .ensures)
+
+next-is : (c : tie.After-nearest) → let s = c .before .before .before .before .args in
+    c .nearest .result ≡ halfUp (natAbs (s .amount) * s .running) (s .whole)
+next-is c = rw (size-is (c .before)) at (c .nearest .ensures)
+
+next-small : (c : tie.After-nearest) → c .nearest .result < 2 ^ 63
+unfolding roundDiv
+next-small c =
+    let s = c .before .before .before .before in
+    omega (arith, next-is c, product-fits s, abs-round (pos (natAbs (s .args .amount) * s .args .running)) (s .args .whole))
+
+next-back : (c : tie.After-nearest) → let s = c .before .before .before .before .args in
+    toZ w64 (c .nearest .result) ≡ pos (halfUp (natAbs (s .amount) * s .running) (s .whole))
+next-back c = toZ-pos w64 _ (next-small c) ∙ ap pos (next-is c)
+
+turned : (c : tie.Then3) → let s = c .before .before .before .before .before .args in
+    pos 0 -ℤ toZ w64 (c .before .nearest .result) ≡ upTo (s .amount) (s .whole) (s .running)
+turned c =
+    let s = c .before .before .before .before .before in
+    rw (next-back (c .before)) (below (s .args .amount) (s .args .whole) (s .args .running) (rw (toZ-ofZ w64 _ (s .fits .amount)) at (c .if3 .taken)))
+
 returns : tie.Need-returns
 returns c = rw (c .if1 .taken, by-zero)
 
 returns-2 : tie.Need-returns-2
 returns-2 c =
     let s = c .before .before in
-    let z : s .args .amount ≡ pos 0 = sym (toZ-ofZ w64 _ (s .fits .amount)) ∙ ap (toZ w64) (c .if2 .taken) in
-    rw (z, zero-times (s .args .running)) (sym (round-zero (s .args .whole)))
+    rw (zero-bits (s .fits .amount) (c .if2 .taken), zero-times (s .args .running)) (sym (round-zero (s .args .whole)))
 
-times-requires : tie.Need-times-requires
-times-requires c κs =
-    let s = c .before .before in
-    rw (toZ-ofZ w64 _ (s .fits .amount)) (within w64 _ (rw (abs-mul (s .args .amount) (pos (s .args .running))) (s .pre)))
+nearest-requires : tie.Need-nearest-requires
+nearest-requires c κs =
+    let s = c .before .before .before in
+    let k = s .pre .1 in (
+      s .pre .0 ∙ sym (same-rates (s .args .amount) (s .args .whole) (c .absolute .result) (size-is c)),
+      (omega arith, (k .0, (k .1 .0, rw (size-is c) (k .1 .1)))),
+    )
+
+cast-next : tie.Need-cast-next
+cast-next c = within w64 _ (next-small c)
+
+sub-result : tie.Need-sub-result
+sub-result c = rw (turned c) (result-fits (c .before .before .before .before .before))
 
 returns-3 : tie.Need-returns-3
-returns-3 c =
-    let t = c .before .times in
-    got w64 (c .round-div .ok)
-    (c .round-div .ensures ∙ simp (got w64 (t .ok) (t .ensures), toZ-ofZ w64 _ (c .before .before .before .before .fits .amount)))
+returns-3 c = rw (turned c) (toZ-ofZ w64 _ (result-fits (c .before .before .before .before .before)))
+
+returns-4 : tie.Need-returns-4
+returns-4 c =
+    let s = c .before .before .before .before .before in
+    next-back (c .before) ∙ above (s .args .amount) (s .args .whole) (s .args .running) (rw (toZ-ofZ w64 _ (s .fits .amount)) at (c .if3 .left))
 
 pub up-to-spec : {M : Type 1} → statement M
-up-to-spec = tie.close (tie.spec returns returns-2 times-requires (λ c κs. search needs) returns-3)
+up-to-spec = tie.close (tie.spec returns returns-2 (λ c κs. search needs) nearest-requires cast-next sub-result returns-3 returns-4)

@@ -4,11 +4,9 @@ use surcharge::Terms;
 use verdict::Verdict;
 ghost use mathlib.Core.Path.{_≡_};
 ghost use mathlib.Core.List.{_++_};
-ghost use Prim.Native.Nat.{ℕ, _+_, _*_, _≤_, _<_};
+ghost use Prim.Native.Nat.{_+_, _*_, _≤_, _<_};
 ghost use lib.ListN.{length, drop};
-ghost use Rattle.exact.specs.Total.{total};
-ghost use Rattle.words.specs.Bytes.{wordsFrom};
-ghost use Rattle.limits.specs.Ranges.{mostDemand, plainPoints};
+ghost use Rattle.limits.specs.Ranges.{plainPoints};
 ghost use mathlib.Core.Bool.{not, _&&_};
 ghost use lib.Dec.{eqb};
 ghost use Rattle.body.specs.Layout.{kindOf};
@@ -76,20 +74,6 @@ fn write_areas(peak: u32, days: &[u32], file: &[u8], n: usize, statement: &mut [
     }
 }
 
-// T of an hour: the sum of its demands.
-fn total_demand(body: &[u8], from: usize, count: usize) -> u32
-    requires { ⌜ (4 * (from + count) ≤ length (now body)) × ((i : ℕ) → i ≤ count → total (wordsFrom (now body) from i) ≤ mostDemand) ⌝ }
-    ensures { λ r. ⌜ r ≡ total (wordsFrom (now (body .entry)) from count) ⌝ }
-{
-    let mut sum: u32 = 0;
-    let mut i: usize = 0;
-    while i < count {
-        sum += words::word(body, from + i);
-        i += 1;
-    }
-    sum
-}
-
 // Whether there is somebody to charge for hour h. The amounts are only asked for where there is no demand.
 fn chargeable_hour(terms: Terms, day: Day, body: &[u8], h: usize, at: usize) -> bool
     requires { ⌜ AtHour terms day (now body) h at ⌝ }
@@ -100,7 +84,7 @@ fn chargeable_hour(terms: Terms, day: Day, body: &[u8], h: usize, at: usize) -> 
     }
     let load = words::word(body, 5) as usize;
     let count = words::word(body, 6) as usize;
-    let demand = total_demand(body, at + 8 + 24 * load, count);
+    let demand = shares::sum_of_words(body, at + 8 + 24 * load, count);
     if 0 < demand {
         return true;
     }

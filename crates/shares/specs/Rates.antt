@@ -1,5 +1,6 @@
 -- How R(A × C / T) is found without a division at each C: by what A comes to for one thousandth of T.
 use Prim.Native.Nat.{ℕ, _*_, _/_, _%_}
+use mathlib.Core.Bool.{false}
 use lib.IntN.{ℤ, natAbs}
 use Rattle.shares.specs.declared.Rates.{Rates}
 
@@ -7,6 +8,6 @@ use Rattle.shares.specs.declared.Rates.{Rates}
 abbrev pub rateParts : ℕ
 rateParts = 68719476736
 
--- whole cents, and of the rest as many parts of a cent as are whole; 0 and 0 where T is 0
+-- whole cents, and of the rest as many parts of a cent as are whole
 unfoldable pub ratesOf : ℤ → ℕ → Rates
-ratesOf amount t = record { each = natAbs amount / t; part = natAbs amount % t * rateParts / t }
+ratesOf amount t = record { divided = false; each = natAbs amount / t; part = natAbs amount % t * rateParts / t }

@@ -2,7 +2,7 @@
 ghost use mathlib.Core.Path.{_≡_};
 ghost use mathlib.Core.List.{_++_};
 ghost use Prim.Native.Nat.{_+_, _*_, _≤_, _<_, _^_};
-ghost use mathlib.Core.Bool.{cond, _||_};
+ghost use mathlib.Core.Bool.{true, false, cond, _||_};
 ghost use lib.Dec.{eqb, leb, ltb};
 ghost use lib.IntN.{pos, natAbs};
 ghost use lib.ListN.{length, drop};
@@ -44,28 +44,49 @@ pub fn sum_of_words(bytes: &[u8], from: usize, count: usize) -> u32
 }
 
 // What an amount A comes to for each thousandth of a demand T: whole cents, and 2^36ths of a cent of the rest. Two divisions for all of an hour's
-// charges.
+// charges. Where that gains nothing there are no rates, and each charge is divided.
 pub struct Rates {
+    pub divided: bool,
     pub each: u64,
     pub part: u64,
 }
 
-// Most hours have no amount, and are spared the divisions.
-pub fn rates_of(amount: i64, whole: u32) -> Rates
-    requires { ⌜ whole ≤ mostDemand ⌝ }
-    ensures { λ r. ⌜ r ≡ ratesOf amount whole ⌝ }
+// Up to so many coordinators fewer divisions are left than the rates take: the last one's share needs none.
+const DIVIDED_COORDINATORS: usize = 2;
+
+fn no_rates() -> Rates
+    ensures { λ r. ⌜ r .divided ≡ true ⌝ }
 {
+    Rates {
+        divided: true,
+        each: 0,
+        part: 0,
+    }
+}
+
+// Most hours have no amount, and are spared the divisions.
+pub fn rates_of(amount: i64, whole: u32, count: usize) -> Rates
+    requires { ⌜ whole ≤ mostDemand ⌝ }
+    ensures { λ r. ⌜ (r .divided ≡ false → r ≡ ratesOf amount whole) ⌝ }
+{
+    if count <= DIVIDED_COORDINATORS {
+        return no_rates();
+    }
     if whole == 0 {
-        return Rates { each: 0, part: 0 };
+        return no_rates();
     }
     if amount == 0 {
-        return Rates { each: 0, part: 0 };
+        return no_rates();
     }
     let size = exact::absolute(amount);
     let divisor = whole as u64;
     let each = size / divisor;
     let part = size % divisor * RATE_PARTS / divisor;
-    Rates { each, part }
+    Rates {
+        divided: false,
+        each,
+        part,
+    }
 }
 
 // 1 where a number has reached a bound, and 0 below it: no branch, since the processor could not foretell it.
@@ -89,7 +110,7 @@ fn nearest(size: u64, whole: u32, rates: Rates, running: u32) -> u64
 
 // R(A × C / T) at running demand C; 0 where there is no demand.
 pub fn up_to(amount: i64, whole: u32, rates: Rates, running: u32) -> i64
-    requires { ⌜ (rates ≡ ratesOf amount whole) × ((running ≤ whole) × ((whole ≤ mostDemand) × (natAbs amount * whole < 2 ^ 63))) ⌝ }
+    requires { ⌜ ((rates .divided ≡ false → rates ≡ ratesOf amount whole) × ((running ≤ whole) × ((whole ≤ mostDemand) × (natAbs amount * whole < 2 ^ 63)))) ⌝ }
     ensures { λ r. ⌜ r ≡ upTo amount whole running ⌝ }
 {
     if whole == 0 {
@@ -97,6 +118,12 @@ pub fn up_to(amount: i64, whole: u32, rates: Rates, running: u32) -> i64
     }
     if amount == 0 {
         return 0;
+    }
+    if running == whole {
+        return amount;
+    }
+    if rates.divided {
+        return exact::round_div(exact::times(amount, running), whole);
     }
     let next = nearest(exact::absolute(amount), whole, rates, running) as i64;
     if amount < 0 {
@@ -111,7 +138,7 @@ pub fn share_demands(amount: i64, demands: &[u32], charges: &mut [i64])
     ensures { λ _. ⌜ now (charges .exit) ≡ shares amount (now (demands .entry)) ++ drop (length (now (demands .entry))) (now (charges .entry)) ⌝ }
 {
     let whole = sum_of_demands(demands);
-    let rates = rates_of(amount, whole);
+    let rates = rates_of(amount, whole, demands.len());
     let mut running: u32 = 0;
     let mut before: i64 = 0;
     let mut i: usize = 0;
@@ -132,7 +159,7 @@ pub fn share_words(amount: i64, bytes: &[u8], from: usize, count: usize, charges
     ensures { λ _. ⌜ now (charges .exit) ≡ shares amount (wordsFrom (now (bytes .entry)) from count) ++ drop count (now (charges .entry)) ⌝ }
 {
     let whole = sum_of_words(bytes, from, count);
-    let rates = rates_of(amount, whole);
+    let rates = rates_of(amount, whole, count);
     let mut running: u32 = 0;
     let mut before: i64 = 0;
     let mut i: usize = 0;

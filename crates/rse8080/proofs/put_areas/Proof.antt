@@ -11,7 +11,7 @@ use Rattle.encoding.proofs.Encoding.{encoded-length}
 use Rattle.body.specs.Layout.{daysOf, coordinatorsOf}
 use Rattle.contents.specs.File.{areasOf, bodyAt}
 use Rattle.surcharge.specs.declared.Terms.{Terms}
-use Rattle.statement.specs.Block.{hourNumbers, areaNumbers, block}
+use Rattle.statement.specs.Block.{hourNumbers, areaNumbers}
 use Rattle.settlement.specs.Settlement.{neededTo, termsAt, statementTo, daysBy, ownDays}
 use Rattle.settlement.proofs.Areas.{needed-more, needed-within, statement-more, statement-length, placed, head-inside, area-few, needed-small}
 use Rattle.rse8080.proofs.Bytes.{bytes-more}

@@ -14,7 +14,6 @@ use Rattle.words.specs.Bytes.{wordsFrom}
 use Rattle.exact.proofs.Machine.{within}
 use Rattle.limits.specs.Ranges.{mostAmount}
 use Rattle.body.specs.Layout.{demandsOf, kindOf}
-use Rattle.body.proofs.Kept.{hour-demand}
 use Rattle.amounts.specs.Amounts.{amountAt}
 use Rattle.amounts.proofs.AmountSizes.{amount-small, amount-is, amounts-ranged}
 use Rattle.statement.specs.Ranges.{DemandsRanged}
@@ -27,17 +26,17 @@ demands : (s : tie.Start) → DemandsRanged (now (s .args .body)) (s .args .at)
 demands s = rw (s .pre .here) (demands-ranged (now (s .args .body)) (s .pre .sound) (s .args .h) (s .pre .below))
 
 -- back from T, and from A, to the start
-abbrev from-total : tie.After-total-demand → tie.Start
+abbrev from-total : tie.After-sum-of-words → tie.Start
 from-total c = c .before .before .before .before .before .before
 
 abbrev from-amount : tie.After-amount-of → tie.Start
 from-amount c = c .before .before .before .before .before .before .before .before .before
 
-total-is : (c : tie.After-total-demand) → let s = from-total c .args in c .total-demand .result ≡ total (demandsOf (now (s .body)) (s .h))
+total-is : (c : tie.After-sum-of-words) → let s = from-total c .args in c .sum-of-words .result ≡ total (demandsOf (now (s .body)) (s .h))
 total-is c =
     let b = now (from-total c .args .body) in
     let from = ap₂ (λ at load. at + 8 + 24 * load) (from-total c .pre .here) (c .before .before .word2 .ensures) in
-    c .total-demand .ensures ∙ ap₂ (λ at n. total (wordsFrom b at n)) from (c .before .word3 .ensures)
+    c .sum-of-words .ensures ∙ ap₂ (λ at n. total (wordsFrom b at n)) from (c .before .word3 .ensures)
 
 amount-there : (c : tie.After-amount-of) → let s = from-amount c .args in c .amount-of .result .0 ≡ amountAt (s .terms) (now (s .body)) (s .h)
 amount-there c = let s = from-amount c .args in amount-is (s .terms) (now (s .body)) (s .h) _ (c .before .hour-amounts .ensures) _ (c .amount-of .ensures)
@@ -65,18 +64,17 @@ word-requires-2 c κs = let r = demands (c .before .before .before) .room in ome
 word-requires-3 : tie.Need-word-requires-3
 word-requires-3 c κs = let r = demands (c .before .before .before .before) .room in omega arith
 
-add-total-demand : tie.Need-add-total-demand
-add-total-demand c = let r = demands (c .before .before .before .before .before) .room in omega arith
+add-sum-of-words : tie.Need-add-sum-of-words
+add-sum-of-words c = let r = demands (c .before .before .before .before .before) .room in omega arith
 
-add-total-demand-2 : tie.Need-add-total-demand-2
-add-total-demand-2 c = let r = demands (c .before .before .before .before .before) .room in omega (arith, c .before .word2 .ensures)
+add-sum-of-words-2 : tie.Need-add-sum-of-words-2
+add-sum-of-words-2 c = let r = demands (c .before .before .before .before .before) .room in omega (arith, c .before .word2 .ensures)
 
-total-demand-requires : tie.Need-total-demand-requires
-total-demand-requires c κs =
+sum-of-words-requires : tie.Need-sum-of-words-requires
+sum-of-words-requires c κs =
     let s = c .before .before .before .before .before in
     let k = s .pre in
-    rw (c .before .word2 .ensures, c .word3 .ensures)
-    (demands s .room, λ i p. rw (k .here) (hour-demand _ (now (s .args .body)) (k .sound) (s .args .h) (k .below) i p))
+    rw (c .before .word2 .ensures, c .word3 .ensures) (demands s .room, demands s .sum)
 
 returns-2 : tie.Need-returns-2
 unfolding chargeable
@@ -107,5 +105,5 @@ returns-3 c =
 
 pub chargeable-hour-spec : {M : Type 1} → statement M
 chargeable-hour-spec =
-    tie.close (tie.spec word-requires returns word-requires-2 (λ c. search needs) word-requires-3 (λ c. search needs) add-total-demand
-    (λ c. search needs) add-total-demand-2 total-demand-requires returns-2 (λ c κs. search needs) amount-of-requires (λ c κs. search needs) returns-3)
+    tie.close (tie.spec word-requires returns word-requires-2 (λ c. search needs) word-requires-3 (λ c. search needs) add-sum-of-words
+    (λ c. search needs) add-sum-of-words-2 sum-of-words-requires returns-2 (λ c κs. search needs) amount-of-requires (λ c κs. search needs) returns-3)

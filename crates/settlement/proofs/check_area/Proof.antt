@@ -2,7 +2,6 @@ use borrow.Author.Needs.{needs}
 use denote.Ref.{now}
 use mathlib.Core.Bool.{Bool, true, false, not}
 use mathlib.Core.Path.{_≡_, refl, sym, _∙_}
-use lib.Dec.{eqb}
 use Rattle.verdict.proofs.First.{both}
 use Rattle.settlement.proofs.NeverRefused.{never-refused}
 use Rattle.settlement.proofs.check_area.Statement.{statement}

@@ -1,6 +1,4 @@
 use borrow.Author.Needs.{needs}
-use denote.Ref.{now}
-use lib.ListN.{length}
 use borrow.Author.Tests.{lt-ltb, le-ltb}
 use Rattle.settlement.specs.Settlement.{termsIn}
 use Rattle.settlement.proofs.terms_of.Statement.{statement}

@@ -12,8 +12,8 @@ use mir.Val.{SFits, toZ}
 use mir.ValLaws.{toZ-ofZ, toZ-pos}
 use Rattle.exact.specs.Round.{roundDiv, halfUp}
 use Rattle.exact.proofs.Magnitude.{abs-mul}
-use Rattle.exact.proofs.Machine.{within, zero-bits}
-use Rattle.exact.proofs.Round.{round-zero, round-neg, abs-round}
+use Rattle.exact.proofs.Machine.{within, got, zero-bits}
+use Rattle.exact.proofs.Round.{round-zero, round-neg, round-exact, abs-round}
 use Rattle.shares.specs.Shares.{upTo}
 use Rattle.shares.specs.Rates.{ratesOf}
 use Rattle.shares.proofs.up_to.Statement.{statement}
@@ -54,28 +54,32 @@ result-fits s =
     let z = s .args .amount in
     within w64 _ (omega (arith, product-fits s, abs-round (z *ℤ pos (s .args .running)) (s .args .whole), abs-mul z (pos (s .args .running))))
 
-size-is : (c : tie.After-absolute) → c .absolute .result ≡ natAbs (c .before .before .before .args .amount)
-size-is c = rw (toZ-ofZ w64 _ (c .before .before .before .fits .amount)) at (c .absolute .ensures)
+-- back from the size of the amount to the start
+abbrev start : tie.After-absolute → tie.Start
+start c = c .before .before .before .before .before
 
-next-is : (c : tie.After-nearest) → let s = c .before .before .before .before .args in
+size-is : (c : tie.After-absolute) → c .absolute .result ≡ natAbs (start c .args .amount)
+size-is c = rw (toZ-ofZ w64 _ (start c .fits .amount)) at (c .absolute .ensures)
+
+next-is : (c : tie.After-nearest) → let s = start (c .before) .args in
     c .nearest .result ≡ halfUp (natAbs (s .amount) * s .running) (s .whole)
 next-is c = rw (size-is (c .before)) at (c .nearest .ensures)
 
 next-small : (c : tie.After-nearest) → c .nearest .result < 2 ^ 63
 unfolding roundDiv
 next-small c =
-    let s = c .before .before .before .before in
+    let s = start (c .before) in
     omega (arith, next-is c, product-fits s, abs-round (pos (natAbs (s .args .amount) * s .args .running)) (s .args .whole))
 
-next-back : (c : tie.After-nearest) → let s = c .before .before .before .before .args in
+next-back : (c : tie.After-nearest) → let s = start (c .before) .args in
     toZ w64 (c .nearest .result) ≡ pos (halfUp (natAbs (s .amount) * s .running) (s .whole))
 next-back c = toZ-pos w64 _ (next-small c) ∙ ap pos (next-is c)
 
-turned : (c : tie.Then3) → let s = c .before .before .before .before .before .args in
+turned : (c : tie.Then5) → let s = start (c .before .before) .args in
     pos 0 -ℤ toZ w64 (c .before .nearest .result) ≡ upTo (s .amount) (s .whole) (s .running)
 turned c =
-    let s = c .before .before .before .before .before in
-    rw (next-back (c .before)) (below (s .args .amount) (s .args .whole) (s .args .running) (rw (toZ-ofZ w64 _ (s .fits .amount)) at (c .if3 .taken)))
+    let s = start (c .before .before) in
+    rw (next-back (c .before)) (below (s .args .amount) (s .args .whole) (s .args .running) (rw (toZ-ofZ w64 _ (s .fits .amount)) at (c .if5 .taken)))
 
 returns : tie.Need-returns
 returns c = rw (c .if1 .taken, by-zero)
@@ -85,11 +89,33 @@ returns-2 c =
     let s = c .before .before in
     rw (zero-bits (s .fits .amount) (c .if2 .taken), zero-times (s .args .running)) (sym (round-zero (s .args .whole)))
 
+returns-3 : tie.Need-returns-3
+returns-3 c =
+    let s = c .before .before .before in
+    let e : s .args .running ≡ s .args .whole = c .if3 .taken in
+    let some : 0 < s .args .whole = omega (arith, c .before .before .if1 .left) in
+    toZ-ofZ w64 _ (s .fits .amount) ∙ sym (rw e (round-exact (s .args .amount) (s .args .whole) some))
+
+times-requires : tie.Need-times-requires
+times-requires c κs =
+    let s = c .before .before .before .before in
+    rw (toZ-ofZ w64 _ (s .fits .amount)) (within w64 _ (rw (abs-mul (s .args .amount) (pos (s .args .running))) (product-fits s)))
+
+round-div-requires : tie.Need-round-div-requires
+round-div-requires c κs = omega (arith, c .before .before .before .before .if1 .left)
+
+returns-4 : tie.Need-returns-4
+returns-4 c =
+    let t = c .before .times in
+    got w64 (c .round-div .ok)
+    (c .round-div .ensures ∙ simp (got w64 (t .ok) (t .ensures), toZ-ofZ w64 _ (c .before .before .before .before .before .before .fits .amount)))
+
 nearest-requires : tie.Need-nearest-requires
 nearest-requires c κs =
-    let s = c .before .before .before in
+    let s = start c in
     let k = s .pre .1 in (
-      s .pre .0 ∙ sym (same-rates (s .args .amount) (s .args .whole) (c .absolute .result) (size-is c)),
+      s .pre .0 (c .before .if4 .left)
+          ∙ sym (same-rates (s .args .amount) (s .args .whole) (c .absolute .result) (size-is c)),
       (omega arith, (k .0, (k .1 .0, rw (size-is c) (k .1 .1)))),
     )
 
@@ -97,15 +123,17 @@ cast-next : tie.Need-cast-next
 cast-next c = within w64 _ (next-small c)
 
 sub-result : tie.Need-sub-result
-sub-result c = rw (turned c) (result-fits (c .before .before .before .before .before))
+sub-result c = rw (turned c) (result-fits (start (c .before .before)))
 
-returns-3 : tie.Need-returns-3
-returns-3 c = rw (turned c) (toZ-ofZ w64 _ (result-fits (c .before .before .before .before .before)))
+returns-5 : tie.Need-returns-5
+returns-5 c = rw (turned c) (toZ-ofZ w64 _ (result-fits (start (c .before .before))))
 
-returns-4 : tie.Need-returns-4
-returns-4 c =
-    let s = c .before .before .before .before .before in
-    next-back (c .before) ∙ above (s .args .amount) (s .args .whole) (s .args .running) (rw (toZ-ofZ w64 _ (s .fits .amount)) at (c .if3 .left))
+returns-6 : tie.Need-returns-6
+returns-6 c =
+    let s = start (c .before .before) in
+    next-back (c .before) ∙ above (s .args .amount) (s .args .whole) (s .args .running) (rw (toZ-ofZ w64 _ (s .fits .amount)) at (c .if5 .left))
 
 pub up-to-spec : {M : Type 1} → statement M
-up-to-spec = tie.close (tie.spec returns returns-2 (λ c κs. search needs) nearest-requires cast-next sub-result returns-3 returns-4)
+up-to-spec =
+    tie.close (tie.spec returns returns-2 returns-3 times-requires round-div-requires returns-4 (λ c κs. search needs) nearest-requires cast-next
+    sub-result returns-5 returns-6)

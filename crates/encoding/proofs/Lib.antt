@@ -1,1 +1,2 @@
 pub mod Encoding
+pub mod Decoding

@@ -4,17 +4,18 @@ use surcharge::Terms;
 use verdict::Verdict;
 ghost use mathlib.Core.Path.{_≡_};
 ghost use mathlib.Core.List.{_++_};
-ghost use Prim.Native.Nat.{_+_, _*_, _≤_, _<_};
+ghost use Prim.Native.Nat.{_*_, _≤_, _<_};
 ghost use lib.ListN.{length, drop};
-ghost use Rattle.limits.specs.Ranges.{plainPoints};
+ghost use Rattle.limits.specs.Ranges.{mostCoordinators, plainPoints};
 ghost use mathlib.Core.Bool.{not, _&&_};
 ghost use lib.Dec.{eqb};
-ghost use Rattle.body.specs.Layout.{kindOf};
+ghost use Rattle.body.specs.Layout.{kindOf, coordinatorsOf};
 ghost use Rattle.body.specs.Kept.{Sound};
 ghost use Rattle.marking.specs.Marked.{markedIn};
 ghost use Rattle.contents.specs.File.{areasOf, peakOf};
 ghost use Rattle.surcharge.specs.Ranges.{TermsKept};
 ghost use Rattle.amounts.specs.Ranges.{AtHour};
+ghost use Rattle.statement.specs.Block.{hourBlock, block, hourNumbers, areaNumbers};
 ghost use Rattle.settlement.specs.SoundFile.{SoundFile, Settleable};
 ghost use Rattle.settlement.specs.Settlement.{neededTo, statementTo, termsIn, chargeable, chargeRule, hourRefusal, hoursRefusal};
 ghost use Rattle.settlement.specs.Settlement.{areasRefusal, listed, acceptedRule, afterWith, settleOf, after};
@@ -56,6 +57,51 @@ fn terms_of(peak: u32, days: &[u32], k: usize, body: &[u8]) -> Terms
     }
 }
 
+// The bytes of the longest hour.
+const MOST_HOUR_BYTES: usize = 8 * (statement::AMOUNTS_SHOWN + limits::MOST_COORDINATORS);
+
+// Hour h, which starts at word `at`, at the front of some numbers. It is written as bytes into `hour` first, so that what writes an hour stands
+// once.
+fn hour_into_numbers(
+    terms: Terms,
+    day: Day,
+    body: &[u8],
+    h: usize,
+    at: usize,
+    hour: &mut [u8],
+    numbers: &mut [i64],
+)
+    requires { ⌜ AtHour terms day (now body) h at ⌝ }
+    requires { ⌜ (8 * hourNumbers mostCoordinators ≤ length (now hour)) × (hourNumbers (coordinatorsOf (now body)) ≤ length (now numbers)) ⌝ }
+    ensures { λ _. ⌜ now (numbers .exit) ≡ hourBlock terms (now (body .entry)) h
+        ++ drop (hourNumbers (coordinatorsOf (now (body .entry)))) (now (numbers .entry)) ⌝ }
+{
+    statement::write_hour(terms, day, body, h, at, hour);
+    let bytes = 8 * statement::hour_numbers(words::word(body, 6) as usize);
+    encoding::take_numbers(&hour[..bytes], numbers);
+}
+
+// The 24 hours of an area at the front of its part of the statement, each hour lent its own part of that, and all of them `hour` in turn.
+fn area_into_numbers(terms: Terms, body: &[u8], hour: &mut [u8], statement: &mut [i64])
+    requires { ⌜ (TermsKept terms) × (Sound plainPoints (now body)) ⌝ }
+    requires { ⌜ (8 * hourNumbers mostCoordinators ≤ length (now hour)) × (areaNumbers (coordinatorsOf (now body)) ≤ length (now statement)) ⌝ }
+    ensures { λ _. ⌜ now (statement .exit) ≡ block terms (now (body .entry))
+        ++ drop (areaNumbers (coordinatorsOf (now (body .entry)))) (now (statement .entry)) ⌝ }
+{
+    let day = amounts::day_facts(terms, body);
+    let load = words::word(body, 5) as usize;
+    let count = words::word(body, 6) as usize;
+    let mut at = body::first_hour(load, count);
+    let mut to: usize = 0;
+    let mut h: usize = 0;
+    while h < limits::DAY_HOURS {
+        hour_into_numbers(terms, day, body, h, at, hour, &mut statement[to..]);
+        at = body::next_hour(load, count, h, at);
+        to += statement::hour_numbers(count);
+        h += 1;
+    }
+}
+
 // The blocks of n areas, each lent its own part of the statement.
 fn write_areas(peak: u32, days: &[u32], file: &[u8], n: usize, statement: &mut [i64])
     requires { ⌜ (Settleable (now days) (now file)) × ((n ≡ areasOf (now file)) × (peak ≡ peakOf (now file))) ⌝ }
@@ -63,12 +109,13 @@ fn write_areas(peak: u32, days: &[u32], file: &[u8], n: usize, statement: &mut [
     ensures { λ _. ⌜ now (statement .exit) ≡ statementTo (listed (now (days .entry)) (now (file .entry))) (now (file .entry)) n
         ++ drop (neededTo (now (file .entry)) n) (now (statement .entry)) ⌝ }
 {
+    let mut hour = [0u8; MOST_HOUR_BYTES];
     let mut to: usize = 0;
     let mut k: usize = 0;
     while k < n {
         let body = contents::body_at(file, k);
         let terms = terms_of(peak, days, k, body);
-        statement::write_area(terms, body, &mut statement[to..]);
+        area_into_numbers(terms, body, &mut hour, &mut statement[to..]);
         to += statement::area_numbers(words::word(body, 6) as usize);
         k += 1;
     }

@@ -2,10 +2,11 @@ pub mod SomeDemand
 pub mod Turned
 pub mod ByRates
 pub mod Running
+pub mod Length
 pub mod Sharing
 pub mod AddsUp
 pub mod WithinACent
 pub mod Merged
 pub mod Nothing
-pub mod Length
 pub mod Rising
+pub mod Fits

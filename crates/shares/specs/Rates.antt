@@ -4,10 +4,11 @@ use mathlib.Core.Bool.{false}
 use lib.IntN.{ℤ, natAbs}
 use Rattle.shares.specs.declared.Rates.{Rates}
 
--- 2^36: more than any C, and few enough that a remainder by T, so many times, fits 64 bits
+-- 2^32: more than any C
 abbrev pub rateParts : ℕ
-rateParts = 68719476736
+rateParts = 4294967296
 
--- whole cents, and of the rest as many parts of a cent as are whole
+-- whole cents, what of A these leave over, and of that as many parts of a cent as are whole
 unfoldable pub ratesOf : ℤ → ℕ → Rates
-ratesOf amount t = record { divided = false; each = natAbs amount / t; part = natAbs amount % t * rateParts / t }
+ratesOf amount t =
+    record { divided = false; each = natAbs amount / t; rest = natAbs amount % t; part = natAbs amount % t * rateParts / t }

@@ -1,20 +1,21 @@
 // Sharing one amount among coordinators by their running demands, over number slices and over words of a file.
 ghost use mathlib.Core.Path.{_≡_};
 ghost use mathlib.Core.List.{_++_};
-ghost use Prim.Native.Nat.{_+_, _*_, _≤_, _<_, _^_};
+ghost use Prim.Native.Nat.{_+_, _*_, _/_, _≤_, _<_, _^_};
 ghost use mathlib.Core.Bool.{true, false, cond, _||_};
 ghost use lib.Dec.{eqb, leb, ltb};
-ghost use lib.IntN.{pos, natAbs};
+ghost use lib.IntN.{natAbs};
 ghost use lib.ListN.{length, drop};
 ghost use Rattle.exact.specs.Round.{halfUp};
 ghost use Rattle.exact.specs.Total.{total};
 ghost use Rattle.words.specs.Bytes.{wordsFrom};
+ghost use Rattle.encoding.specs.Encoding.{encoded};
 ghost use Rattle.limits.specs.Ranges.{mostDemand};
 ghost use Rattle.shares.specs.Shares.{upTo, shares};
-ghost use Rattle.shares.specs.Rates.{ratesOf};
+ghost use Rattle.shares.specs.Rates.{rateParts, ratesOf};
 
-// Into so many parts a rate divides a cent: 2^36, so that dividing by them is a shift.
-const RATE_PARTS: u64 = 68719476736;
+// Into so many parts a rate divides a cent: 2^32, so that dividing by them is a shift.
+const RATE_PARTS: u64 = 4294967296;
 
 pub fn sum_of_demands(demands: &[u32]) -> u32
     requires { ⌜ total (now demands) < 2 ^ 32 ⌝ }
@@ -43,12 +44,13 @@ pub fn sum_of_words(bytes: &[u8], from: usize, count: usize) -> u32
     sum
 }
 
-// What an amount A comes to for each thousandth of a demand T: whole cents, and 2^36ths of a cent of the rest. Two divisions for all of an hour's
-// charges. Where that gains nothing there are no rates, and each charge is divided.
+// What an amount A comes to for each thousandth of a demand T: whole cents, what of A these leave over, and of that the 2^32ths of a cent. Two divisions
+// for all of an hour's charges. Where that gains nothing there are no rates, and each charge is divided.
 pub struct Rates {
     pub divided: bool,
     pub each: u64,
-    pub part: u64,
+    pub rest: u32,
+    pub part: u32,
 }
 
 // Up to so many coordinators fewer divisions are left than the rates take: the last one's share needs none.
@@ -60,6 +62,7 @@ fn no_rates() -> Rates
     Rates {
         divided: true,
         each: 0,
+        rest: 0,
         part: 0,
     }
 }
@@ -80,12 +83,13 @@ pub fn rates_of(amount: i64, whole: u32, count: usize) -> Rates
     }
     let size = exact::absolute(amount);
     let divisor = whole as u64;
-    let each = size / divisor;
-    let part = size % divisor * RATE_PARTS / divisor;
+    let rest = size % divisor;
+    let part = rest * RATE_PARTS / divisor;
     Rates {
         divided: false,
-        each,
-        part,
+        each: size / divisor,
+        rest: rest as u32,
+        part: part as u32,
     }
 }
 
@@ -96,16 +100,18 @@ fn reached(bound: u64, number: u64) -> u64
     (bound <= number) as u64
 }
 
-// R(|A| × C / T) at running demand C, without a division by T: the guess is at most one too small, so half of T and three halves tell what it lacks.
-fn nearest(size: u64, whole: u32, rates: Rates, running: u32) -> u64
-    requires { ⌜ (rates ≡ ratesOf (pos size) whole) × ((0 < whole) × ((running ≤ whole) × ((whole ≤ mostDemand) × (size * whole < 2 ^ 63)))) ⌝ }
-    ensures { λ r. ⌜ r ≡ halfUp (size * running) whole ⌝ }
+// R(|A| × C / T) at running demand C, without a division by T: the whole cents, and a guess of what the rest comes to, which is at most one too small, so
+// that half of T and three halves tell what it lacks. All factors but the whole cents have 32 bits, which the processor multiplies fastest.
+fn nearest(whole: u32, rates: Rates, running: u32) -> u64
+    requires { ⌜ (0 < whole) × ((whole ≤ mostDemand) × (running ≤ whole)) ⌝ }
+    requires { ⌜ (rates .each * whole < 2 ^ 63) × ((rates .rest < whole) × (rates .part ≡ rates .rest * rateParts / whole)) ⌝ }
+    ensures { λ r. ⌜ r ≡ rates .each * running + halfUp (rates .rest * running) whole ⌝ }
 {
     let divisor = whole as u64;
     let demand = running as u64;
-    let guess = rates.each * demand + rates.part * demand / RATE_PARTS;
-    let twice = 2 * (size * demand - guess * divisor);
-    guess + reached(divisor, twice) + reached(3 * divisor, twice)
+    let guess = rates.part as u64 * demand / RATE_PARTS;
+    let twice = 2 * (rates.rest as u64 * demand - guess * divisor);
+    rates.each * demand + (guess + reached(divisor, twice) + reached(3 * divisor, twice))
 }
 
 // R(A × C / T) at running demand C; 0 where there is no demand.
@@ -125,7 +131,7 @@ pub fn up_to(amount: i64, whole: u32, rates: Rates, running: u32) -> i64
     if rates.divided {
         return exact::round_div(exact::times(amount, running), whole);
     }
-    let next = nearest(exact::absolute(amount), whole, rates, running) as i64;
+    let next = nearest(whole, rates, running) as i64;
     if amount < 0 {
         return 0 - next;
     }
@@ -152,11 +158,11 @@ pub fn share_demands(amount: i64, demands: &[u32], charges: &mut [i64])
     }
 }
 
-// The same over the demands in `count` words of a file, from word `from` on.
-pub fn share_words(amount: i64, bytes: &[u8], from: usize, count: usize, charges: &mut [i64])
+// The same over the demands in `count` words of a file, from word `from` on, the charges as bytes, eight a number.
+pub fn share_words(amount: i64, bytes: &[u8], from: usize, count: usize, charges: &mut [u8])
     requires { ⌜ (natAbs amount * total (wordsFrom (now bytes) from count) < 2 ^ 63) × ((total (wordsFrom (now bytes) from count) ≤ mostDemand)
-        × ((4 * (from + count) ≤ length (now bytes)) × (count ≤ length (now charges)))) ⌝ }
-    ensures { λ _. ⌜ now (charges .exit) ≡ shares amount (wordsFrom (now (bytes .entry)) from count) ++ drop count (now (charges .entry)) ⌝ }
+        × ((4 * (from + count) ≤ length (now bytes)) × (8 * count ≤ length (now charges)))) ⌝ }
+    ensures { λ _. ⌜ now (charges .exit) ≡ encoded (shares amount (wordsFrom (now (bytes .entry)) from count)) ++ drop (8 * count) (now (charges .entry)) ⌝ }
 {
     let whole = sum_of_words(bytes, from, count);
     let rates = rates_of(amount, whole, count);
@@ -167,7 +173,8 @@ pub fn share_words(amount: i64, bytes: &[u8], from: usize, count: usize, charges
         let demand = words::word(bytes, from + i);
         running += demand;
         let next = up_to(amount, whole, rates, running);
-        charges[i] = next - before;
+        let to = 8 * i;
+        encoding::put_number(next - before, &mut charges[to..]);
         before = next;
         i += 1;
     }

@@ -1,29 +1,28 @@
 -- The block of an hour as it is written, and how long it is.
-use Prim.Native.Nat.{ℕ, zero, suc, _+_, _*_, _-_, _≤_, _<_}
+use Prim.Native.Nat.{ℕ, zero, suc, _+_, _*_, _≤_, _<_}
 use mathlib.Core.List.{List, [], _∷_, _++_}
 use mathlib.Core.Path.{_≡_, refl, sym, _∙_}
 use native.Mathlib.Nat.{suc-mul, zero-mul}
 use native.Mathlib.Numerals.{add-one}
 use native.Mathlib.Omega.{arith}
 use lib.IntN.{ℤ}
-use lib.ListN.{length, take, drop, length-append}
-use borrow.Rule.Slice.PartMut.{putMid}
-use Rattle.exact.proofs.Lending.{lent-back}
+use lib.ListN.{length, length-append}
 use Rattle.limits.specs.Ranges.{dayHours, plainPoints}
 use Rattle.body.specs.Layout.{kindOf, coordinatorsOf, demandsAt}
 use Rattle.body.specs.Kept.{Sound}
 use Rattle.surcharge.specs.declared.Terms.{Terms}
-use Rattle.amounts.specs.Amounts.{amountAt}
-use Rattle.statement.specs.Block.{amountsShown, hourNumbers, hourBlock, hoursBlock}
+use Rattle.amounts.specs.Amounts.{onPeakAmount, offPeakAmount, downwardAmount, amountAt}
+use Rattle.statement.specs.Block.{hourNumbers, chargesAt, hourBlock, hoursBlock}
 use Rattle.statement.proofs.Charges.{charges-length}
 use Rattle.statement.proofs.Demands.{demands-ranged}
 
--- the amounts in front, and the charges in the part behind them
-pub hour-written : (on off down : ℤ) (charges before xs part : List ℤ) (k : ℕ) → xs ≡ on ∷ off ∷ down ∷ drop amountsShown before
-    → part ≡ charges ++ drop k (take (length xs - amountsShown) (drop amountsShown xs))
-    → putMid amountsShown (length xs - amountsShown) xs part ≡ (on ∷ off ∷ down ∷ charges) ++ drop (amountsShown + k) before
-hour-written on off down charges before xs part k stands came =
-    lent-back (on ∷ off ∷ down ∷ []) before charges xs part amountsShown k refl stands came
+-- the amounts of an hour, and behind them its charges
+abbrev pub amountsAt : Terms → List ℕ → ℕ → List ℤ
+amountsAt terms body h = onPeakAmount terms body h ∷ offPeakAmount terms body h ∷ downwardAmount terms body h ∷ []
+
+pub hour-is : (terms : Terms) (body : List ℕ) (h : ℕ) → hourBlock terms body h ≡ amountsAt terms body h ++ chargesAt terms body h
+unfolding hourBlock
+hour-is terms body h = refl
 
 module _ (terms : Terms) (body : List ℕ) (sound : Sound plainPoints body) where
   module _ (h : ℕ) (below : h < dayHours) where

@@ -7,24 +7,23 @@ use native.Mathlib.Omega.{arith}
 use lib.ListN.{length, drop, length-take, length-drop}
 use Rattle.limits.specs.Ranges.{mostCoordinators}
 use Rattle.encoding.specs.Encoding.{encoded}
-use Rattle.encoding.proofs.Encoding.{encoded-length}
+use Rattle.encoding.proofs.Encoding.{bytes-more, encoded-length}
 use Rattle.body.specs.Layout.{daysOf, coordinatorsOf}
 use Rattle.contents.specs.File.{areasOf, bodyAt}
 use Rattle.surcharge.specs.declared.Terms.{Terms}
-use Rattle.statement.specs.Block.{hourNumbers, areaNumbers}
+use Rattle.statement.specs.Block.{areaNumbers}
 use Rattle.settlement.specs.Settlement.{neededTo, termsAt, statementTo, daysBy, ownDays}
 use Rattle.settlement.proofs.Areas.{needed-more, needed-within, statement-more, statement-length, placed, head-inside, area-few, needed-small}
-use Rattle.rse8080.proofs.Bytes.{bytes-more}
 use Rattle.rse8080.proofs.put_areas.Statement.{statement}
 use Rattle.rse8080.proofs.put_areas.Tie as tie
 
 abbrev Inv-loop : tie.InvT-loop
-Inv-loop file bytes₀ numbers₀ n peak to₀ k₀ bytes numbers to k =
+Inv-loop file bytes₀ n peak to₀ k₀ bytes to k =
     (k ≤ n) × (to ≡ 8 * neededTo file k) × (bytes ≡ encoded (statementTo (daysBy ownDays file) file k) ++ drop to bytes₀)
-    × (length bytes ≡ length bytes₀) × (length numbers ≡ hourNumbers mostCoordinators)
+    × (length bytes ≡ length bytes₀)
 
 abbrev μ-loop : tie.MeasureT-loop
-μ-loop file bytes₀ numbers₀ n peak to₀ k₀ bytes numbers to k = n - k
+μ-loop file bytes₀ n peak to₀ k₀ bytes to k = n - k
 
 abbrev start : tie.In-loop Inv-loop μ-loop → tie.Start Inv-loop μ-loop
 start c = c .before .before .before .before .before .before
@@ -57,7 +56,7 @@ word-requires-2 c κs = let r = c .before .before .before .pre .0 .0 .room in om
 
 loop-holds : tie.Need-loop-holds Inv-loop μ-loop
 unfolding neededTo statementTo encoded
-loop-holds c = (omega arith, refl, refl, refl, refl)
+loop-holds c = (omega arith, refl, refl, refl)
 
 body-at-requires : tie.Need-body-at-requires Inv-loop μ-loop
 body-at-requires c κs = placed _ (start c .pre .0 .0) _ (below c)
@@ -67,35 +66,32 @@ word-requires-3 c κs =
     let h = head-inside _ (start (c .before) .pre .0 .0) _ (below (c .before)) in
     rw (c .body-at .ensures .0) (omega arith)
 
-sub-put-area : tie.Need-sub-put-area Inv-loop μ-loop
-sub-put-area c = let r = room (c .before .before .before) in omega arith
+sub-write-area : tie.Need-sub-write-area Inv-loop μ-loop
+sub-write-area c = let r = room (c .before .before) in omega arith
 
-part-put-area-start : tie.Need-part-put-area-start Inv-loop μ-loop
-part-put-area-start c = let r = room (c .before .before .before) in omega arith
+part-write-area-start : tie.Need-part-write-area-start Inv-loop μ-loop
+part-write-area-start c = let r = room (c .before .before) in omega arith
 
-slice-aggregate-put-area : tie.Need-slice-aggregate-put-area Inv-loop μ-loop
-slice-aggregate-put-area c = sym (c .before .before .before .before .loop .inv .4)
-
-put-area-requires : tie.Need-put-area-requires Inv-loop μ-loop
-put-area-requires c κs =
-    let w = c .before .before in
+write-area-requires : tie.Need-write-area-requires Inv-loop μ-loop
+write-area-requires c κs =
+    let w = c .before in
     let i = w .before .before in
     let s = start i .pre .0 in
     rw (terms-are w, w .before .body-at .ensures .0)
-    ((record { days = s .1 .each _ (below i) }, s .0 .body _ (below i)), (omega (arith, i .before .loop .inv .4), simp (length-take, length-drop) (omega (arith, room i))))
+    ((record { days = s .1 .each _ (below i) }, s .0 .body _ (below i)), simp (length-take, length-drop) (omega (arith, room i)))
 
 -- back from K of the area to its turn
 abbrev turn : tie.After-word4 Inv-loop μ-loop → tie.In-loop Inv-loop μ-loop
-turn c = c .before .before .before .before .before .before .before .before .before
+turn c = c .before .before .before .before .before .before .before
 
 count : (c : tie.After-word4 Inv-loop μ-loop) →
     let i = turn c in
     c .word4 .result ≡ coordinatorsOf (bodyAt (now (start i .args .file)) (i .before .loop .k))
-count c = c .word4 .ensures ∙ ap coordinatorsOf (c .before .before .before .before .before .before .before .before .body-at .ensures .0)
+count c = c .word4 .ensures ∙ ap coordinatorsOf (c .before .before .before .before .before .before .body-at .ensures .0)
 
 word-requires-4 : tie.Need-word-requires-4 Inv-loop μ-loop
 word-requires-4 c κs =
-    let b = c .before .before .before .before .before .before .before in
+    let b = c .before .before .before .before .before in
     let h = head-inside _ (start (b .before) .pre .0 .0) _ (below (b .before)) in
     rw (b .body-at .ensures .0) (omega arith)
 
@@ -125,16 +121,15 @@ loop-again c =
     let l = i .before .loop in
     let n = c .area-numbers .ensures ∙ ap areaNumbers (count (c .before)) in
     let long = statement-length f (s .pre .0 .0) (daysBy ownDays f) (l .k) (omega (arith, below i)) in
-    let p = c .before .before .before .before .before in
-    let w = p .before .before .before in (
+    let p = c .before .before .before .before in
+    let w = p .before .before in (
       omega arith,
       rw n (omega (arith, needed-more f (l .k), l .inv .1)),
       rw n
           (bytes-more (statementTo (daysBy ownDays f) f (l .k)) _ _ (now (s .args .bytes)) (l .bytes) _ (l .to)
           (8 * areaNumbers (coordinatorsOf (bodyAt f (l .k)))) (statement-more f (daysBy ownDays f) (l .k))
           (encoded-length _ ∙ ap (λ m. 8 * m) long ∙ sym (l .inv .1)) (l .inv .2)
-          (rw (terms-are w, w .before .body-at .ensures .0) at (p .put-area .ensures))),
-      omega arith,
+          (rw (terms-are w, w .before .body-at .ensures .0) at (p .write-area .ensures))),
       omega arith,
     )
 
@@ -150,5 +145,5 @@ returns c =
 pub put-areas-spec : {M : Type 1} → statement M
 put-areas-spec =
     tie.close (tie.spec Inv-loop μ-loop word-requires (λ c. search needs) word-requires-2 loop-holds body-at-requires word-requires-3
-    slice-aggregate-put-area sub-put-area part-put-area-start (λ c. search needs) put-area-requires word-requires-4 (λ c. search needs)
+    sub-write-area part-write-area-start (λ c. search needs) write-area-requires word-requires-4 (λ c. search needs)
     area-numbers-requires mul-to add-to (λ c. search needs) (λ c. search needs) loop-again same-length returns)

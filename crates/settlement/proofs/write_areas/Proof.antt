@@ -1,6 +1,6 @@
 use borrow.Author.Needs.{needs}
 use denote.Ref.{now}
-use Prim.Native.Nat.{ℕ, _+_, _-_, _≤_, _<_}
+use Prim.Native.Nat.{ℕ, _+_, _*_, _-_, _≤_, _<_}
 use mathlib.Core.List.{List, _++_}
 use mathlib.Core.Path.{_≡_, refl, sym, ap, _∙_}
 use native.Mathlib.Omega.{arith}
@@ -8,9 +8,10 @@ use lib.IntN.{ℤ}
 use lib.ListN.{length, take, drop, length-take, length-drop}
 use borrow.Rule.Slice.PartMut.{putMid}
 use Rattle.exact.proofs.Lending.{lent-back}
+use Rattle.limits.specs.Ranges.{mostCoordinators}
 use Rattle.body.specs.Layout.{coordinatorsOf}
 use Rattle.contents.specs.File.{areasOf, bodyAt}
-use Rattle.statement.specs.Block.{areaNumbers, block}
+use Rattle.statement.specs.Block.{hourNumbers, areaNumbers, block}
 use Rattle.settlement.specs.Settlement.{neededTo, termsAt, statementTo, listed}
 use Rattle.settlement.proofs.Areas.{needed-more, needed-within, statement-more, statement-length, placed, head-inside, area-few, needed-small}
 use Rattle.settlement.proofs.Accepted.{terms-there}
@@ -18,12 +19,12 @@ use Rattle.settlement.proofs.write_areas.Statement.{statement}
 use Rattle.settlement.proofs.write_areas.Tie as tie
 
 abbrev Inv-loop : tie.InvT-loop
-Inv-loop peak days file n statement₀ to₀ k₀ statement to k =
+Inv-loop peak days file n statement₀ hour₀ to₀ k₀ statement hour to k =
     (k ≤ n) × (to ≡ neededTo file k) × (statement ≡ statementTo (listed days file) file k ++ drop to statement₀)
-    × (length statement ≡ length statement₀)
+    × (length statement ≡ length statement₀) × (length hour ≡ 8 * hourNumbers mostCoordinators)
 
 abbrev μ-loop : tie.MeasureT-loop
-μ-loop peak days file n statement₀ to₀ k₀ statement to k = n - k
+μ-loop peak days file n statement₀ hour₀ to₀ k₀ statement hour to k = n - k
 
 abbrev start : tie.In-loop Inv-loop μ-loop → tie.Start Inv-loop μ-loop
 start c = c .before .before .before .before
@@ -48,7 +49,7 @@ step days file k to m before xs more long stands came =
 
 loop-holds : tie.Need-loop-holds Inv-loop μ-loop
 unfolding neededTo statementTo
-loop-holds c = (omega arith, refl, refl, refl)
+loop-holds c = (omega arith, refl, refl, refl, refl)
 
 body-at-requires : tie.Need-body-at-requires Inv-loop μ-loop
 body-at-requires c κs = let i = c in placed _ (start i .pre .0 .0 .sound) _ (below i)
@@ -66,35 +67,41 @@ terms-are c =
     let s = start (c .before .before) in
     terms-there (now (s .args .days)) (now (s .args .file)) _ _ _ _ (c .terms-of .ensures) (s .pre .0 .1 .1) (c .before .body-at .ensures .0)
 
-mul-write-area : tie.Need-mul-write-area Inv-loop μ-loop
-mul-write-area c = let r = room (c .before .before) in omega arith
+slice-aggregate-area-into-numbers : tie.Need-slice-aggregate-area-into-numbers Inv-loop μ-loop
+slice-aggregate-area-into-numbers c = sym (c .before .before .before .before .loop .inv .4)
 
-sub-write-area : tie.Need-sub-write-area Inv-loop μ-loop
-sub-write-area c = let r = room (c .before .before) in omega arith
+mul-area-into-numbers : tie.Need-mul-area-into-numbers Inv-loop μ-loop
+mul-area-into-numbers c = let r = room (c .before .before .before) in omega arith
 
-part-write-area-start : tie.Need-part-write-area-start Inv-loop μ-loop
-part-write-area-start c = let r = room (c .before .before) in omega arith
+sub-area-into-numbers : tie.Need-sub-area-into-numbers Inv-loop μ-loop
+sub-area-into-numbers c = let r = room (c .before .before .before) in omega arith
 
-write-area-requires : tie.Need-write-area-requires Inv-loop μ-loop
-write-area-requires c κs =
-    let i = c .before .before .before in
+part-area-into-numbers-start : tie.Need-part-area-into-numbers-start Inv-loop μ-loop
+part-area-into-numbers-start c = let r = room (c .before .before .before) in omega arith
+
+area-into-numbers-requires : tie.Need-area-into-numbers-requires Inv-loop μ-loop
+area-into-numbers-requires c κs =
+    let t = c .before .before in
+    let i = t .before .before in
     let s = start i .pre .0 .0 in
-    rw (terms-are (c .before), c .before .before .body-at .ensures .0)
-    ((record { days = s .kept .each _ (below i) }, s .sound .body _ (below i)), simp (length-take, length-drop) (omega (arith, room i)))
+    rw (terms-are t, t .before .body-at .ensures .0) (
+      (record { days = s .kept .each _ (below i) }, s .sound .body _ (below i)),
+      (omega (arith, i .before .loop .inv .4), simp (length-take, length-drop) (omega (arith, room i))),
+    )
 
 -- back from K of the area to its turn
 abbrev turn : tie.After-word Inv-loop μ-loop → tie.In-loop Inv-loop μ-loop
-turn c = c .before .before .before .before .before .before
+turn c = c .before .before .before .before .before .before .before .before
 
 count : (c : tie.After-word Inv-loop μ-loop) →
     let i = turn c in
     c .word .result ≡ coordinatorsOf (bodyAt (now (start i .args .file)) (i .before .loop .k))
-count c = c .word .ensures ∙ ap coordinatorsOf (c .before .before .before .before .before .body-at .ensures .0)
+count c = c .word .ensures ∙ ap coordinatorsOf (c .before .before .before .before .before .before .before .body-at .ensures .0)
 
 word-requires : tie.Need-word-requires Inv-loop μ-loop
 word-requires c κs =
-    let i = c .before .before .before .before .before in
-    rw (c .before .before .before .before .body-at .ensures .0) (head-inside _ (start i .pre .0 .0 .sound) _ (below i))
+    let i = c .before .before .before .before .before .before .before in
+    rw (c .before .before .before .before .before .before .body-at .ensures .0) (head-inside _ (start i .pre .0 .0 .sound) _ (below i))
 
 area-numbers-requires : tie.Need-area-numbers-requires Inv-loop μ-loop
 area-numbers-requires c κs = rw (count c) (area-few _ (start (turn c) .pre .0 .0 .sound) _ (below (turn c)))
@@ -118,12 +125,13 @@ loop-again c =
     let l = i .before .loop in
     let n = c .area-numbers .ensures ∙ ap areaNumbers (count (c .before)) in
     let long = statement-length f (s .pre .0 .0 .sound) (listed (now (a .days)) f) (l .k) (omega (arith, below i)) in
-    let b = c .before .before .before .before .before in (
+    let b = c .before .before .before .before .before .before .before in (
       omega arith,
       rw n (omega (arith, needed-more f (l .k), l .inv .1)),
       rw n
           (step (listed (now (a .days)) f) f (l .k) (l .to) (areaNumbers (coordinatorsOf (bodyAt f (l .k)))) (now (a .statement)) (l .statement) _
-          (long ∙ sym (l .inv .1)) (l .inv .2) (rw (terms-are b, b .before .body-at .ensures .0) at (c .before .before .before .write-area .ensures))),
+          (long ∙ sym (l .inv .1)) (l .inv .2) (rw (terms-are b, b .before .body-at .ensures .0) at (c .before .before .before .before .area-into-numbers .ensures))),
+      omega arith,
       omega arith,
     )
 
@@ -138,6 +146,6 @@ returns c =
 
 pub write-areas-spec : {M : Type 1} → statement M
 write-areas-spec =
-    tie.close (tie.spec Inv-loop μ-loop loop-holds body-at-requires terms-of-requires mul-write-area sub-write-area part-write-area-start
-    (λ c. search needs) write-area-requires word-requires (λ c. search needs) area-numbers-requires add-to (λ c. search needs) (λ c. search needs)
-    loop-again same-length returns)
+    tie.close (tie.spec Inv-loop μ-loop loop-holds body-at-requires terms-of-requires slice-aggregate-area-into-numbers mul-area-into-numbers
+    sub-area-into-numbers part-area-into-numbers-start (λ c. search needs) area-into-numbers-requires word-requires (λ c. search needs)
+    area-numbers-requires add-to (λ c. search needs) (λ c. search needs) loop-again same-length returns)

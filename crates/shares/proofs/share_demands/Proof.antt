@@ -3,19 +3,23 @@ use denote.Ref.{now}
 use Prim.Native.Nat.{_-_}
 use mathlib.Core.Path.{refl}
 use native.Mathlib.Omega.{arith}
-use lib.ListN.{length, getD}
+use lib.IntN.{pos}
+use lib.ListN.{length, getD, drop, drop-of-length-le}
 use mir.Syntax.{w64}
 use mir.Val.{toZ}
 use mir.ValLaws.{toZ-ofZ}
 use Rattle.exact.proofs.Machine.{got}
+use Rattle.exact.proofs.Filling.{Filling, fill-start, fill-step, fill-end, drop-next}
+use Rattle.shares.specs.Shares.{shares}
 use Rattle.shares.proofs.Running.{DemandAt}
-use Rattle.shares.proofs.Sharing.{Shared, shared-start, next-within, charge-fits, shared-step, shared-end}
+use Rattle.shares.proofs.Sharing.{Shared, shared-start, next-within, charge-place, charge-fits, charge-stored, shared-step, shared-end}
 use Rattle.shares.proofs.share_demands.Statement.{statement}
 use Rattle.shares.proofs.share_demands.Tie as tie
 
 abbrev Inv-loop : tie.InvT-loop
 Inv-loop amount demands charges₀ whole rates running₀ before₀ i₀ charges running before i =
-    Shared (toZ w64 amount) demands charges₀ whole charges running (toZ w64 before) i
+    Shared (toZ w64 amount) demands whole running (toZ w64 before) i
+    × Filling (shares (toZ w64 amount) demands) charges₀ charges (drop i (shares (toZ w64 amount) demands)) i
 
 abbrev μ-loop : tie.MeasureT-loop
 μ-loop amount demands charges₀ whole rates running₀ before₀ i₀ charges running before i = length demands - i
@@ -28,27 +32,37 @@ next c = (c .loop-test .taken, refl)
 loop-holds : tie.Need-loop-holds Inv-loop μ-loop
 loop-holds c =
     let s = c .before .before .before in
-    shared-start _ _ _ (c .before .sum-of-demands .ensures) (s .pre .1 .0) (rw (toZ-ofZ w64 _ (s .fits .amount)) (s .pre .0)) refl (s .pre .1 .1)
+    (shared-start _ _ (c .before .sum-of-demands .ensures) (s .pre .1 .0) (rw (toZ-ofZ w64 _ (s .fits .amount)) (s .pre .0)), fill-start _ _)
 
 add-running : tie.Need-add-running Inv-loop μ-loop
-add-running c = let v = c .before .before .loop .inv in omega (arith, next-within v (next (c .before)), v .few)
+add-running c = let v = c .before .before .loop .inv .0 in omega (arith, next-within v (next (c .before)), v .few)
 
 up-to-requires : tie.Need-up-to-requires Inv-loop μ-loop
 up-to-requires c κs =
     let l = c .before .before in
-    let v = l .loop .inv in
+    let v = l .loop .inv .0 in
     (l .before .rates-of .ensures, (omega (arith, next-within v (next (c .before))), (v .few, v .small)))
 
 sub-charges : tie.Need-sub-charges Inv-loop μ-loop
-sub-charges c = let n = c .before .before in charge-fits (n .before .loop .inv) (next n) (got w64 (c .up-to .ok) (c .up-to .ensures))
+sub-charges c = let n = c .before .before in charge-fits (n .before .loop .inv .0) (next n) (got w64 (c .up-to .ok) (c .up-to .ensures))
 
 loop-again : tie.Need-loop-again Inv-loop μ-loop
-loop-again c = let n = c .before .before in shared-step (n .before .loop .inv) (next n) (got w64 (c .up-to .ok) (c .up-to .ensures))
+loop-again c =
+    let n = c .before .before in
+    let l = n .before .loop in
+    let v = l .inv .0 in
+    let e = got w64 (c .up-to .ok) (c .up-to .ensures) in (
+      shared-step v (next n) e,
+      fill-step _ (rw (drop-next _ (l .i) (pos 0) (charge-place v (next n)), ← charge-stored v (next n) e) at (l .inv .1))
+          (omega (arith, l .inv .1 .kept)),
+    )
 
 returns : tie.Need-returns Inv-loop μ-loop
 returns c =
     let s = c .before .before .before .before .before in
-    rw (toZ-ofZ w64 _ (s .fits .amount)) at (shared-end (c .before .loop .inv) refl (c .loop-test .left))
+    let l = c .before .loop in
+    let done = shared-end (l .inv .0) refl (c .loop-test .left) in
+    rw (done .0, toZ-ofZ w64 _ (s .fits .amount)) at (fill-end (rw (drop-of-length-le _ {i = l .i} (done .1)) at (l .inv .1)))
 
 pub share-demands-spec : {M : Type 1} → statement M
 share-demands-spec =

@@ -1,8 +1,8 @@
 use borrow.Author.Needs.{needs}
-use Prim.Native.Nat.{ℕ, suc, _*_, _<_, _^_}
+use Prim.Native.Nat.{ℕ, suc, _*_, _/_, _<_, _^_}
 use mathlib.Core.Bool.{true, false, true≢false}
 use mathlib.Core.Path.{_≡_, refl, sym, ap, _∙_}
-use native.Mathlib.Nat.{zero-mul, mul-zero, div-zero, mul-le-mul-left}
+use native.Mathlib.Nat.{zero-mul, mul-zero, div-zero, mul-le-mul-left, div-mul-le-self, le-mul-of-pos-right, mod-lt}
 use native.Mathlib.Omega.{arith}
 use borrow.Author.Tests.{ltb-true}
 use lib.IntN.{ℤ, pos, negsuc, negℤ, natAbs, _-ℤ_, _*ℤ_, +ℤ-idl}
@@ -16,6 +16,7 @@ use Rattle.exact.proofs.Machine.{within, got, zero-bits}
 use Rattle.exact.proofs.Round.{round-zero, round-neg, round-exact, abs-round}
 use Rattle.shares.specs.Shares.{upTo}
 use Rattle.shares.specs.Rates.{ratesOf}
+use Rattle.shares.proofs.ByRates.{by-rates}
 use Rattle.shares.proofs.up_to.Statement.{statement}
 use Rattle.shares.proofs.up_to.Tie as tie
 
@@ -41,10 +42,6 @@ unfolding roundDiv
 above (pos a) t c e = refl
 above (negsuc a) t c e = absurd (true≢false e)
 
-same-rates : (amount : ℤ) (t size : ℕ) → size ≡ natAbs amount → ratesOf (pos size) t ≡ ratesOf amount t
-unfolding ratesOf
-same-rates amount t size e = rw e
-
 -- what R is rounded from fits, and so does R
 product-fits : (s : tie.Start) → natAbs (s .args .amount) * s .args .running < 2 ^ 63
 product-fits s = omega (arith, mul-le-mul-left (natAbs (s .args .amount)) (s .pre .1 .0))
@@ -54,16 +51,23 @@ result-fits s =
     let z = s .args .amount in
     within w64 _ (omega (arith, product-fits s, abs-round (z *ℤ pos (s .args .running)) (s .args .whole), abs-mul z (pos (s .args .running))))
 
--- back from the size of the amount to the start
-abbrev start : tie.After-absolute → tie.Start
-start c = c .before .before .before .before .before
+-- back from the rates to the start
+abbrev start : tie.Else4 → tie.Start
+start c = c .before .before .before .before
 
-size-is : (c : tie.After-absolute) → c .absolute .result ≡ natAbs (start c .args .amount)
-size-is c = rw (toZ-ofZ w64 _ (start c .fits .amount)) at (c .absolute .ensures)
+rates-are : (c : tie.Else4) → let s = start c .args in
+    s .rates ≡ ratesOf (s .amount) (s .whole)
+rates-are c = start c .pre .0 (c .if4 .left)
+
+some : (c : tie.Else4) → 0 < start c .args .whole
+some c = omega (arith, c .before .before .before .if1 .left)
 
 next-is : (c : tie.After-nearest) → let s = start (c .before) .args in
     c .nearest .result ≡ halfUp (natAbs (s .amount) * s .running) (s .whole)
-next-is c = rw (size-is (c .before)) at (c .nearest .ensures)
+unfolding ratesOf
+next-is c =
+    let s = start (c .before) .args in
+    rw (rates-are (c .before)) at (c .nearest .ensures) ∙ by-rates (natAbs (s .amount)) (s .whole) (s .running) (some (c .before))
 
 next-small : (c : tie.After-nearest) → c .nearest .result < 2 ^ 63
 unfolding roundDiv
@@ -111,13 +115,15 @@ returns-4 c =
     (c .round-div .ensures ∙ simp (got w64 (t .ok) (t .ensures), toZ-ofZ w64 _ (c .before .before .before .before .before .before .fits .amount)))
 
 nearest-requires : tie.Need-nearest-requires
+unfolding ratesOf
 nearest-requires c κs =
     let s = start c in
-    let k = s .pre .1 in (
-      s .pre .0 (c .before .if4 .left)
-          ∙ sym (same-rates (s .args .amount) (s .args .whole) (c .absolute .result) (size-is c)),
-      (omega arith, (k .0, (k .1 .0, rw (size-is c) (k .1 .1)))),
-    )
+    let a = natAbs (s .args .amount) in
+    let t = s .args .whole in
+    let k = s .pre .1 in
+    let whole = some c in
+    let cents : a / t * t < 2 ^ 63 = omega (arith, div-mul-le-self a t, le-mul-of-pos-right a whole, k .1 .1) in
+    ((whole, (k .1 .0, k .0)), rw (rates-are c) (cents, (mod-lt a whole, refl)))
 
 cast-next : tie.Need-cast-next
 cast-next c = within w64 _ (next-small c)
@@ -135,5 +141,5 @@ returns-6 c =
 
 pub up-to-spec : {M : Type 1} → statement M
 up-to-spec =
-    tie.close (tie.spec returns returns-2 returns-3 times-requires round-div-requires returns-4 (λ c κs. search needs) nearest-requires cast-next
-    sub-result returns-5 returns-6)
+    tie.close (tie.spec returns returns-2 returns-3 times-requires round-div-requires returns-4 nearest-requires cast-next sub-result
+    returns-5 returns-6)

@@ -1,33 +1,34 @@
 use borrow.Author.Needs.{needs}
 use denote.Ref.{now}
 use Prim.Native.Nat.{ℕ, _+_, _*_, _-_, _≤_, _<_}
-use mathlib.Core.List.{_++_}
+use mathlib.Core.List.{List, _++_}
 use mathlib.Core.Path.{_≡_, refl, sym, ap, ap₂, _∙_}
 use native.Mathlib.Nat.{suc-mul, zero-mul, mul-le-mul-right}
 use native.Mathlib.Numerals.{add-one}
 use native.Mathlib.Omega.{arith}
-use lib.ListN.{length, drop, length-take, length-drop}
+use lib.IntN.{ℤ}
+use lib.ListN.{length, take, drop, length-take, length-drop}
+use borrow.Rule.Slice.PartMut.{putMid}
+use Rattle.exact.proofs.Lending.{lent-back}
 use Rattle.limits.specs.Ranges.{dayHours, mostCoordinators}
-use Rattle.encoding.specs.Encoding.{encoded}
-use Rattle.encoding.proofs.Encoding.{encoded-length}
 use Rattle.body.specs.Layout.{hourStart, hourAt, pointsOf, coordinatorsOf}
 use Rattle.body.proofs.Kept.{sound-size, hour-inside}
+use Rattle.surcharge.specs.declared.Terms.{Terms}
 use Rattle.amounts.specs.Ranges.{AtHour}
-use Rattle.statement.specs.Block.{hourNumbers, hoursBlock}
+use Rattle.statement.specs.Block.{hourNumbers, hourBlock, hoursBlock}
 use Rattle.statement.proofs.Demands.{count-few}
 use Rattle.statement.proofs.Hours.{hours-length, hours-more}
-use Rattle.rse8080.proofs.Bytes.{bytes-more}
-use Rattle.rse8080.proofs.put_area.Statement.{statement}
-use Rattle.rse8080.proofs.put_area.Tie as tie
+use Rattle.settlement.proofs.area_into_numbers.Statement.{statement}
+use Rattle.settlement.proofs.area_into_numbers.Tie as tie
 
 abbrev Inv-loop : tie.InvT-loop
-Inv-loop terms body numbers₀ bytes₀ day load count at₀ to₀ h₀ numbers bytes at to h =
+Inv-loop terms body hour₀ statement₀ day load count at₀ to₀ h₀ hour statement at to h =
     (h ≤ dayHours) × (at ≡ hourStart load count h) × (load ≡ pointsOf body) × (count ≡ coordinatorsOf body)
-    × (to ≡ 8 * (h * hourNumbers (coordinatorsOf body))) × (bytes ≡ encoded (hoursBlock terms body h) ++ drop to bytes₀)
-    × (length bytes ≡ length bytes₀) × (length numbers ≡ length numbers₀)
+    × (to ≡ h * hourNumbers (coordinatorsOf body)) × (statement ≡ hoursBlock terms body h ++ drop to statement₀)
+    × (length statement ≡ length statement₀) × (length hour ≡ length hour₀)
 
 abbrev μ-loop : tie.MeasureT-loop
-μ-loop terms body numbers₀ bytes₀ day load count at₀ to₀ h₀ numbers bytes at to h = dayHours - h
+μ-loop terms body hour₀ statement₀ day load count at₀ to₀ h₀ hour statement at to h = dayHours - h
 
 abbrev start : tie.At-loop Inv-loop μ-loop → tie.Start Inv-loop μ-loop
 start c = c .before .before .before .before .before .before .before
@@ -41,7 +42,7 @@ slot : (h n : ℕ) → h < dayHours → h * n + n ≤ dayHours * n
 slot h n p = rw suc-mul at (mul-le-mul-right n p)
 
 room : (c : tie.In-loop Inv-loop μ-loop) →
-    c .before .loop .to + 8 * hourNumbers (coordinatorsOf (now (start (c .before) .args .body))) ≤ length (c .before .loop .bytes)
+    c .before .loop .to + hourNumbers (coordinatorsOf (now (start (c .before) .args .body))) ≤ length (c .before .loop .statement)
 room c =
     let s = start (c .before) in
     let l = c .before .loop in
@@ -50,6 +51,14 @@ room c =
 few : (c : tie.At-loop Inv-loop μ-loop) → coordinatorsOf (now (start c .args .body)) ≤ mostCoordinators
 few c = count-few _ (start c .pre .0 .1)
 
+-- one hour more
+step : (terms : Terms) (body : List ℕ) (h to : ℕ) (before xs part : List ℤ) (k : ℕ) → length (hoursBlock terms body h) ≡ to
+    → xs ≡ hoursBlock terms body h ++ drop to before → part ≡ hourBlock terms body h ++ drop k (take (length xs - to) (drop to xs))
+    → putMid to (length xs - to) xs part ≡ hoursBlock terms body (h + 1) ++ drop (to + k) before
+step terms body h to before xs part k long stands came =
+    lent-back (hoursBlock terms body h) before (hourBlock terms body h) xs part to k long stands came
+    ∙ ap (λ w. w ++ drop (to + k) before) (sym (hours-more terms body h))
+
 word-requires : tie.Need-word-requires Inv-loop μ-loop
 word-requires c κs = let z = sound-size _ _ (c .before .before .before .pre .0 .1) in omega arith
 
@@ -57,16 +66,19 @@ word-requires-2 : tie.Need-word-requires-2 Inv-loop μ-loop
 word-requires-2 c κs = let z = sound-size _ _ (c .before .before .before .before .pre .0 .1) in omega arith
 
 loop-holds : tie.Need-loop-holds Inv-loop μ-loop
-unfolding hoursBlock encoded
+unfolding hoursBlock
 loop-holds c =
     let w = c .before in
-    (omega arith, c .first-hour .ensures, w .before .word .ensures, w .word2 .ensures, rw (zero-mul (hourNumbers _)), refl, refl, refl)
+    (omega arith, c .first-hour .ensures, w .before .word .ensures, w .word2 .ensures, sym (zero-mul (hourNumbers _)), refl, refl, refl)
 
-sub-put-hour : tie.Need-sub-put-hour Inv-loop μ-loop
-sub-put-hour c = let r = room (c .before) in omega arith
+mul-hour-into-numbers : tie.Need-mul-hour-into-numbers Inv-loop μ-loop
+mul-hour-into-numbers c = let r = room (c .before) in omega arith
 
-part-put-hour-start : tie.Need-part-put-hour-start Inv-loop μ-loop
-part-put-hour-start c = let r = room (c .before) in omega arith
+sub-hour-into-numbers : tie.Need-sub-hour-into-numbers Inv-loop μ-loop
+sub-hour-into-numbers c = let r = room (c .before) in omega arith
+
+part-hour-into-numbers-start : tie.Need-part-hour-into-numbers-start Inv-loop μ-loop
+part-hour-into-numbers-start c = let r = room (c .before) in omega arith
 
 at-hour : (c : tie.In-loop Inv-loop μ-loop) →
     let s = start (c .before) .args in
@@ -81,8 +93,8 @@ at-hour c =
       facts = c .before .before .before .before .before .day-facts .ensures;
     }
 
-put-hour-requires : tie.Need-put-hour-requires Inv-loop μ-loop
-put-hour-requires c κs =
+hour-into-numbers-requires : tie.Need-hour-into-numbers-requires Inv-loop μ-loop
+hour-into-numbers-requires c κs =
     let i = c .before .before in
     (at-hour i, (omega (arith, i .before .loop .inv .7, start (i .before) .pre .1 .0), simp (length-take, length-drop) (omega (arith, room i))))
 
@@ -95,11 +107,6 @@ next-hour-requires c κs =
 hour-numbers-requires : tie.Need-hour-numbers-requires Inv-loop μ-loop
 hour-numbers-requires c κs = let l = c .before .before .before .before .before .before .before .before in omega (arith, few l, l .loop .inv .3)
 
-mul-to : tie.Need-mul-to Inv-loop μ-loop
-mul-to c =
-    let l = c .before .before .before .before .before .before .before .before .before in
-    omega (arith, c .hour-numbers .ensures, l .loop .inv .3, few l)
-
 add-to : tie.Need-add-to Inv-loop μ-loop
 add-to c =
     let i = c .before .before .before .before .before .before .before .before in
@@ -109,22 +116,20 @@ add-to c =
 
 loop-again : tie.Need-loop-again Inv-loop μ-loop
 loop-again c =
-    let p = c .before .before .before .before .before in
-    let l = p .before .before .before .before in
+    let l = c .before .before .before .before .before .before .before .before .before in
     let s = start l in
     let a = s .args in
     let b = now (a .body) in
     let v = l .loop .inv in
     let k = c .hour-numbers .ensures ∙ ap hourNumbers (v .3) in (
-      omega arith,
+      omega (arith, c .before .before .before .before .before .before .before .before .loop-test .taken),
       c .before .next-hour .ensures,
       v .2,
       v .3,
       omega (arith, v .4, k, rw (← add-one (l .loop .h)) at (suc-mul (l .loop .h) (hourNumbers (coordinatorsOf b)))),
       rw k
-          (bytes-more (hoursBlock (a .terms) b (l .loop .h)) _ _ (now (a .bytes)) (l .loop .bytes) _ (l .loop .to) (8 * hourNumbers (coordinatorsOf b))
-          (hours-more (a .terms) b (l .loop .h))
-          (encoded-length _ ∙ ap (λ n. 8 * n) (hours-length (a .terms) b (s .pre .0 .1) (l .loop .h) (v .0)) ∙ sym (v .4)) (v .5) (p .put-hour .ensures)),
+          (step (a .terms) b (l .loop .h) (l .loop .to) (now (a .statement)) (l .loop .statement) _ (hourNumbers (coordinatorsOf b))
+          (hours-length (a .terms) b (s .pre .0 .1) (l .loop .h) (v .0) ∙ sym (v .4)) (v .5) (c .before .before .before .before .before .hour-into-numbers .ensures)),
       omega arith,
       omega arith,
     )
@@ -141,8 +146,8 @@ returns c =
     let e : l .h ≡ dayHours = omega arith in
     rw (l .inv .4, e) at (l .inv .5)
 
-pub put-area-spec : {M : Type 1} → statement M
-put-area-spec =
+pub area-into-numbers-spec : {M : Type 1} → statement M
+area-into-numbers-spec =
     tie.close (tie.spec Inv-loop μ-loop (λ c κs. search needs) word-requires (λ c. search needs) word-requires-2 (λ c. search needs)
-    (λ c κs. search needs) loop-holds sub-put-hour part-put-hour-start (λ c. search needs) put-hour-requires next-hour-requires
-    hour-numbers-requires mul-to add-to (λ c. search needs) (λ c. search needs) loop-again same-length same-length-2 returns)
+    (λ c κs. search needs) loop-holds mul-hour-into-numbers sub-hour-into-numbers part-hour-into-numbers-start (λ c. search needs) hour-into-numbers-requires next-hour-requires
+    hour-numbers-requires add-to (λ c. search needs) (λ c. search needs) loop-again same-length same-length-2 returns)

@@ -2,7 +2,7 @@
 use Prim.Native.Nat.{ℕ, zero, suc, _+_, _*_, _≤_, _<_}
 use mathlib.Core.List.{List, [], _∷_, _++_}
 use mathlib.Core.Path.{_≡_, refl, sym, _∙_}
-use native.Mathlib.Nat.{suc-mul, zero-mul}
+use native.Mathlib.Nat.{suc-mul, zero-mul, mul-le-mul-right}
 use native.Mathlib.Numerals.{add-one}
 use native.Mathlib.Omega.{arith}
 use lib.IntN.{ℤ}
@@ -38,6 +38,10 @@ module _ (terms : Terms) (body : List ℕ) (sound : Sound plainPoints body) wher
   hours-length (suc n) p =
       length-append (hoursBlock terms body n) (hourBlock terms body n)
       ∙ omega (arith, hours-length n (omega arith), hour-length n p, suc-mul n (hourNumbers (coordinatorsOf body)))
+
+-- the part of hour h lies within that of all hours
+pub hour-slot : (h n : ℕ) → h < dayHours → h * n + n ≤ dayHours * n
+hour-slot h n p = rw suc-mul at (mul-le-mul-right n p)
 
 pub hours-more : (terms : Terms) (body : List ℕ) (n : ℕ) → hoursBlock terms body (n + 1) ≡ hoursBlock terms body n ++ hourBlock terms body n
 unfolding hoursBlock

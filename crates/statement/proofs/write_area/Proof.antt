@@ -1,9 +1,9 @@
 use borrow.Author.Needs.{needs}
 use denote.Ref.{now}
-use Prim.Native.Nat.{ℕ, _+_, _*_, _-_, _≤_, _<_}
+use Prim.Native.Nat.{_+_, _*_, _-_, _≤_}
 use mathlib.Core.List.{_++_}
 use mathlib.Core.Path.{_≡_, refl, sym, ap, ap₂, _∙_}
-use native.Mathlib.Nat.{suc-mul, zero-mul, mul-le-mul-right}
+use native.Mathlib.Nat.{suc-mul, zero-mul}
 use native.Mathlib.Numerals.{add-one}
 use native.Mathlib.Omega.{arith}
 use lib.ListN.{length, drop, length-take, length-drop}
@@ -15,7 +15,7 @@ use Rattle.body.proofs.Kept.{sound-size, hour-inside}
 use Rattle.amounts.specs.Ranges.{AtHour}
 use Rattle.statement.specs.Block.{hourNumbers, hoursBlock}
 use Rattle.statement.proofs.Demands.{count-few}
-use Rattle.statement.proofs.Hours.{hours-length, hours-more}
+use Rattle.statement.proofs.Hours.{hours-length, hours-more, hour-slot}
 use Rattle.statement.proofs.write_area.Statement.{statement}
 use Rattle.statement.proofs.write_area.Tie as tie
 
@@ -35,16 +35,12 @@ start c = c .before .before .before .before .before .before .before
 here : (c : tie.At-loop Inv-loop μ-loop) → c .loop .at ≡ hourAt (now (start c .args .body)) (c .loop .h)
 here c = c .loop .inv .1 ∙ ap₂ (λ load count. hourStart load count (c .loop .h)) (c .loop .inv .2) (c .loop .inv .3)
 
--- the part of hour h lies within that of all hours
-slot : (h n : ℕ) → h < dayHours → h * n + n ≤ dayHours * n
-slot h n p = rw suc-mul at (mul-le-mul-right n p)
-
 room : (c : tie.In-loop Inv-loop μ-loop) →
     c .before .loop .to + 8 * hourNumbers (coordinatorsOf (now (start (c .before) .args .body))) ≤ length (c .before .loop .statement)
 room c =
     let s = start (c .before) in
     let l = c .before .loop in
-    omega (arith, slot (l .h) (hourNumbers (coordinatorsOf (now (s .args .body)))) (omega arith), l .inv .4, l .inv .6, s .pre .1)
+    omega (arith, hour-slot (l .h) (hourNumbers (coordinatorsOf (now (s .args .body)))) (omega arith), l .inv .4, l .inv .6, s .pre .1)
 
 few : (c : tie.At-loop Inv-loop μ-loop) → coordinatorsOf (now (start c .args .body)) ≤ mostCoordinators
 few c = count-few _ (start c .pre .0 .1)
@@ -103,7 +99,7 @@ add-to c =
     let i = c .before .before .before .before .before .before in
     let l = i .before .loop in
     let n = hourNumbers (coordinatorsOf (now (start (i .before) .args .body))) in
-    omega (arith, slot (l .h) n (i .loop-test .taken), few (i .before), c .hour-numbers .ensures, l .inv .3, l .inv .4)
+    omega (arith, hour-slot (l .h) n (i .loop-test .taken), few (i .before), c .hour-numbers .ensures, l .inv .3, l .inv .4)
 
 loop-again : tie.Need-loop-again Inv-loop μ-loop
 loop-again c =

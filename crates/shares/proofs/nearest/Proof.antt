@@ -1,6 +1,6 @@
 use borrow.Author.Needs.{needs}
 use Prim.Native.Nat.{ℕ, _+_, _*_, _/_, _≤_, _<_, _^_}
-use mathlib.Core.Path.{_≡_}
+use mathlib.Core.Path.{_≡_, ap}
 use native.Mathlib.Nat.{div-mul-le-self, le-mul-of-pos-right, mul-le-mul-left}
 use native.Mathlib.Omega.{arith}
 use Rattle.exact.specs.Round.{halfUp}
@@ -73,7 +73,9 @@ add-result-3 : tie.Need-add-result-3
 add-result-3 c = let f = facts (c .before .before .before .before .before) in omega arith
 
 returns : tie.Need-returns
-returns c = rw (c .before .reached .ensures .0, c .reached2 .ensures .0, facts (c .before .before .before .before .before) .result)
+returns c =
+    let s = c .before .before .before .before .before in
+    rw (c .before .reached .ensures .0, c .reached2 .ensures .0) (ap (λ n. s .args .rates .each * s .args .running + n) (facts s .result))
 
 pub nearest-spec : {M : Type 1} → statement M
 nearest-spec =

@@ -9,6 +9,7 @@ use lib.ListN.{length, take, drop, set, getD, length-drop, length-set, take-appe
 use lib.Seq.{drop-at, take-all, length-take-le}
 use mir.Syntax.{w64}
 use mir.Val.{SFits}
+use Rattle.words.specs.Word.{wordAt}
 use Rattle.exact.proofs.Filling.{Filling, fill-start, fill-step, fill-end, drop-next}
 use Rattle.encoding.specs.Encoding.{bitsOf, bytesOf, encoded, AllFit, NumberIn, NumbersIn}
 use Rattle.encoding.proofs.Encoding.{encoded-length, encoded-append}
@@ -44,20 +45,18 @@ same-number (pos a) (negsuc b) f g e = absurd (omega (arith, f .sfits, g .sfits)
 same-number (negsuc a) (pos b) f g e = absurd (omega (arith, f .sfits, g .sfits))
 same-number (negsuc a) (negsuc b) f g e = ap negsuc (omega (arith, f .sfits, g .sfits))
 
--- the bits that stand in eight bytes, the lowest first
+-- the bits that stand in two words, the lower one first
 abbrev pub bitsIn : List ℕ → ℕ
-bitsIn bytes =
-    getD bytes 0 0 + 256 * getD bytes 1 0 + 65536 * getD bytes 2 0 + 16777216 * getD bytes 3 0 + 4294967296 * getD bytes 4 0
-    + 1099511627776 * getD bytes 5 0 + 281474976710656 * getD bytes 6 0 + 72057594037927936 * getD bytes 7 0
+bitsIn bytes = wordAt bytes 0 + 4294967296 * wordAt bytes 1
 
 -- q is what is left of the bits above each byte
 joined : (bits a b c d e f g h q₁ q₂ q₃ q₄ q₅ q₆ : ℕ) → bits ≡ a + 256 * q₁ → q₁ ≡ b + 256 * q₂ → q₂ ≡ c + 256 * q₃ → q₃ ≡ d + 256 * q₄
     → q₄ ≡ e + 256 * q₅ → q₅ ≡ f + 256 * q₆ → q₆ ≡ g + 256 * h
-    → a + 256 * b + 65536 * c + 16777216 * d + 4294967296 * e + 1099511627776 * f + 281474976710656 * g + 72057594037927936 * h ≡ bits
+    → a + 256 * b + 65536 * c + 16777216 * d + 4294967296 * (e + 256 * f + 65536 * g + 16777216 * h) ≡ bits
 joined bits a b c d e f g h q₁ q₂ q₃ q₄ q₅ q₆ e₀ e₁ e₂ e₃ e₄ e₅ e₆ = omega arith
 
 bits-back : (bits : ℕ) (rest : List ℕ) → bits < 18446744073709551616 → bitsIn (bytesOf bits ++ rest) ≡ bits
-unfolding bytesOf
+unfolding bytesOf wordAt
 bits-back bits rest h =
     joined bits _ _ _ _ _ _ _ _ (bits / 256) (bits / 65536) (bits / 16777216) (bits / 4294967296) (bits / 1099511627776) (bits / 281474976710656)
     (omega arith) (omega arith) (omega arith) (omega arith) (omega arith) (omega arith) (omega arith)

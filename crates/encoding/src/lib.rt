@@ -1,7 +1,7 @@
 // Numbers as bytes for a host: eight bytes a number, the lowest first, two's complement.
 ghost use mathlib.Core.Path.{_≡_};
 ghost use mathlib.Core.List.{_++_};
-ghost use Prim.Native.Nat.{_+_, _*_, _/_, _≤_};
+ghost use Prim.Native.Nat.{_*_, _/_, _≤_};
 ghost use lib.ListN.{length, drop};
 ghost use Rattle.encoding.specs.Encoding.{bitsOf, bytesOf, encoded, NumberIn, NumbersIn};
 
@@ -42,20 +42,6 @@ pub fn put_numbers(numbers: &[i64], bytes: &mut [u8])
     }
 }
 
-fn packed(a: u8, b: u8, c: u8, d: u8, e: u8, f: u8, g: u8, h: u8) -> u64
-    ensures { λ r.
-        ⌜ r ≡ a + 256 * b + 65536 * c + 16777216 * d + 4294967296 * e + 1099511627776 * f + 281474976710656 * g + 72057594037927936 * h ⌝ }
-{
-    a as u64
-        + 256 * (b as u64)
-        + 65536 * (c as u64)
-        + 16777216 * (d as u64)
-        + 4294967296 * (e as u64)
-        + 1099511627776 * (f as u64)
-        + 281474976710656 * (g as u64)
-        + 72057594037927936 * (h as u64)
-}
-
 // The number with these bits. Written so that it costs no instruction.
 fn of_bits(u: u64) -> i64
     ensures { λ r. ⌜ bitsOf r ≡ u ⌝ }
@@ -66,21 +52,13 @@ fn of_bits(u: u64) -> i64
     -1 - ((18446744073709551615 - u) as i64)
 }
 
-// The number that eight bytes hold. Written so that it is one load.
+// The number that eight bytes hold: two words, the lower one first.
 fn number(bytes: &[u8]) -> i64
     requires { ⌜ 8 ≤ length (now bytes) ⌝ }
     ensures { λ r. ⌜ NumberIn (now (bytes .entry)) r ⌝ }
 {
-    of_bits(packed(
-        bytes[0],
-        bytes[1],
-        bytes[2],
-        bytes[3],
-        bytes[4],
-        bytes[5],
-        bytes[6],
-        bytes[7],
-    ))
+    let low = words::word(bytes, 0) as u64;
+    of_bits(low + 4294967296 * (words::word(bytes, 1) as u64))
 }
 
 // The numbers of some bytes, eight bytes each.

@@ -23,7 +23,7 @@ use Rattle.surcharge.specs.declared.Terms.{Terms}
 use Rattle.statement.specs.Block.{block}
 use Rattle.settlement.specs.SoundFile.{SoundFile, DaysKept, Settleable}
 use Rattle.settlement.specs.Settlement.{numbersNeeded, termsAt, hoursRefusal, areaRefusal, areasRefusal, acceptedRule, statementTo, afterWith}
-use Rattle.settlement.specs.Settlement.{settleWith, termsIn, listed, daysBy, ownDays, settleOf}
+use Rattle.settlement.specs.Settlement.{settleWith, daysIn, termsIn, listed, daysBy, ownDays, settleOf}
 
 module _ (file : List ℕ) (accepted : numberOf (checkOf file) ≡ 0) where
   -- the limits that the file's first word sets
@@ -85,16 +85,15 @@ settleable list days file sound kept is = record { sound = sound; kept = record 
 -- the terms that `terms_of` makes for area k of a file
 pub terms-there : (list file : List ℕ) (k peak : ℕ) (body : List ℕ) (terms : Terms) → terms ≡ termsIn peak list k body → peak ≡ peakOf file
     → body ≡ bodyAt file k → terms ≡ termsAt (listed list file) file k
-unfolding termsIn
 terms-there list file k peak body terms e f g = e ∙ rw (f, g)
 
 pub in-list : (list file : List ℕ) (k : ℕ) → k < length list → listed list file k ≡ getD list k 0
-unfolding termsIn
+unfolding daysIn
 in-list list file k h = rw (lt-ltb k (length list) h)
 
 -- with an empty list each area has its own
 pub no-list : (file : List ℕ) (k : ℕ) → listed [] file k ≡ daysBy ownDays file k
-unfolding termsIn
+unfolding daysIn
 no-list file k = rw (le-ltb k 0 (omega arith))
 
 pub own-settleable : (file : List ℕ) → numberOf (checkOf file) ≡ 0 → Settleable [] file

@@ -1,8 +1,9 @@
--- Every number of an hour of a statement fits 64 bits, so that it is read back from its bytes as it was written.
-use Prim.Native.Nat.{ℕ, _≤_, _<_}
+-- Every number of an area of a statement fits 64 bits, so that it is read back from its bytes as it was written.
+use Prim.Native.Nat.{ℕ, zero, suc, _≤_, _<_}
 use mathlib.Core.Bool.{Bool, true, false}
 use mathlib.Core.List.{List, []}
 use mathlib.Core.Path.{_≡_, refl}
+use native.Mathlib.Nat.{le-refl}
 use native.Mathlib.Omega.{arith}
 use lib.Dec.{eqb}
 use lib.IntN.{ℤ, natAbs}
@@ -13,7 +14,7 @@ use Rattle.exact.proofs.Machine.{within}
 use Rattle.words.specs.Bytes.{wordsFrom}
 use Rattle.limits.specs.Ranges.{dayHours, mostAmount, mostDemand, plainPoints}
 use Rattle.encoding.specs.Encoding.{AllFit}
-use Rattle.encoding.proofs.Decoding.{fit-none, fit-cons}
+use Rattle.encoding.proofs.Decoding.{fit-none, fit-cons, fit-append}
 use Rattle.body.specs.Layout.{kindOf, coordinatorsOf, demandsAt}
 use Rattle.body.specs.Kept.{Sound}
 use Rattle.shares.proofs.Sharing.{share-fits}
@@ -22,7 +23,7 @@ use Rattle.surcharge.specs.declared.Terms.{Terms}
 use Rattle.surcharge.specs.Ranges.{TermsKept}
 use Rattle.amounts.specs.Amounts.{amountAt, amountsOf}
 use Rattle.amounts.proofs.AmountSizes.{amount-small, amounts-ranged}
-use Rattle.statement.specs.Block.{chargesFrom, hourBlock}
+use Rattle.statement.specs.Block.{chargesFrom, hourBlock, hoursBlock, block}
 use Rattle.statement.proofs.Demands.{demands-ranged}
 
 small : (z : ℤ) → natAbs z ≤ mostAmount → SFits w64 z
@@ -37,10 +38,20 @@ charges-fit kind amount body from count h d = by (eqb kind 1) refl
     by true e = rw e (shares-fit amount (wordsFrom body from count) (share-fits amount _ h d))
     by false e = rw e (fit-cons amount [] (small amount h) fit-none)
 
-pub hour-fits : (terms : Terms) (body : List ℕ) (h : ℕ) → TermsKept terms → Sound plainPoints body → h < dayHours → AllFit (hourBlock terms body h)
+hour-fits : (terms : Terms) (body : List ℕ) (h : ℕ) → TermsKept terms → Sound plainPoints body → h < dayHours → AllFit (hourBlock terms body h)
 unfolding hourBlock amountsOf
 hour-fits terms body h kept sound below =
     let r = amounts-ranged terms body h (amountsOf terms body h) refl sound below kept in
     let a = amount-small body sound h below terms kept in
     fit-cons _ _ (small _ (r .on)) (fit-cons _ _ (small _ (r .off)) (fit-cons _ _ (small _ (r .down))
     (charges-fit (kindOf body) (amountAt terms body h) body (demandsAt body h) (coordinatorsOf body) a (demands-ranged body sound h below .sum))))
+
+module _ (terms : Terms) (body : List ℕ) (kept : TermsKept terms) (sound : Sound plainPoints body) where
+  hours-fit : (n : ℕ) → n ≤ dayHours → AllFit (hoursBlock terms body n)
+  unfolding hoursBlock
+  hours-fit zero h = fit-none
+  hours-fit (suc n) h =
+      fit-append (hoursBlock terms body n) (hourBlock terms body n) (hours-fit n (omega arith)) (hour-fits terms body n kept sound h)
+
+  pub block-fits : AllFit (block terms body)
+  block-fits = hours-fit dayHours (le-refl dayHours)

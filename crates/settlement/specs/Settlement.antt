@@ -87,12 +87,16 @@ module _ (days : ℕ → ℕ) (file : List ℕ) where
 
 -- ---- the d of each area in a list; behind the list's end each has its own
 
--- what area k, of this body, is settled under
-unfoldable pub termsIn : (peak : ℕ) (days : List ℕ) (k : ℕ) (body : List ℕ) → Terms
-termsIn peak days k body = record { peak = peak; days = cond (ltb k (length days)) (getD days k 0) (daysOf body) }
+-- that of area k, of this body
+unfoldable pub daysIn : (days : List ℕ) (k : ℕ) (body : List ℕ) → ℕ
+daysIn days k body = cond (ltb k (length days)) (getD days k 0) (daysOf body)
+
+-- what it is settled under
+abbrev pub termsIn : (peak : ℕ) (days : List ℕ) (k : ℕ) (body : List ℕ) → Terms
+termsIn peak days k body = record { peak = peak; days = daysIn days k body }
 
 abbrev pub listed : (days file : List ℕ) → ℕ → ℕ
-listed days file k = termsIn (peakOf file) days k (bodyAt file k) .days
+listed days file k = daysIn days k (bodyAt file k)
 
 -- ---- under any d: a function of an area's number and its body
 

@@ -15,14 +15,17 @@ ghost use Rattle.marking.specs.Marked.{markedIn};
 ghost use Rattle.contents.specs.File.{areasOf, peakOf};
 ghost use Rattle.surcharge.specs.Ranges.{TermsKept};
 ghost use Rattle.amounts.specs.Ranges.{AtHour};
-ghost use Rattle.statement.specs.Block.{hourBlock, block, hourNumbers, areaNumbers};
+ghost use Rattle.statement.specs.Block.{block, areaNumbers};
 ghost use Rattle.settlement.specs.SoundFile.{SoundFile, Settleable};
 ghost use Rattle.settlement.specs.Settlement.{neededTo, statementTo, termsIn, chargeable, chargeRule, hourRefusal, hoursRefusal};
 ghost use Rattle.settlement.specs.Settlement.{areasRefusal, listed, acceptedRule, afterWith, settleOf, after};
 
+// The numbers of the longest area: one of CISO with the most coordinators.
+const MOST_AREA_NUMBERS: usize = limits::DAY_HOURS
+    * (statement::AMOUNTS_SHOWN + limits::MOST_COORDINATORS);
+
 // The numbers of the longest statement of any edition: one area is CISO with the most coordinators, every other has one.
-pub const MOST_NUMBERS: usize = limits::DAY_HOURS
-    * (statement::AMOUNTS_SHOWN + limits::MOST_COORDINATORS)
+pub const MOST_NUMBERS: usize = MOST_AREA_NUMBERS
     + (limits::MOST_AREAS - 1) * (limits::DAY_HOURS * (statement::AMOUNTS_SHOWN + 1));
 
 // How many numbers the statement of n areas takes.
@@ -57,49 +60,16 @@ fn terms_of(peak: u32, days: &[u32], k: usize, body: &[u8]) -> Terms
     }
 }
 
-// The bytes of the longest hour.
-const MOST_HOUR_BYTES: usize = 8 * (statement::AMOUNTS_SHOWN + limits::MOST_COORDINATORS);
-
-// Hour h, which starts at word `at`, at the front of some numbers. It is written as bytes into `hour` first, so that what writes an hour stands
-// once.
-fn hour_into_numbers(
-    terms: Terms,
-    day: Day,
-    body: &[u8],
-    h: usize,
-    at: usize,
-    hour: &mut [u8],
-    numbers: &mut [i64],
-)
-    requires { ⌜ AtHour terms day (now body) h at ⌝ }
-    requires { ⌜ (8 * hourNumbers mostCoordinators ≤ length (now hour)) × (hourNumbers (coordinatorsOf (now body)) ≤ length (now numbers)) ⌝ }
-    ensures { λ _. ⌜ now (numbers .exit) ≡ hourBlock terms (now (body .entry)) h
-        ++ drop (hourNumbers (coordinatorsOf (now (body .entry)))) (now (numbers .entry)) ⌝ }
-{
-    statement::write_hour(terms, day, body, h, at, hour);
-    let bytes = 8 * statement::hour_numbers(words::word(body, 6) as usize);
-    encoding::take_numbers(&hour[..bytes], numbers);
-}
-
-// The 24 hours of an area at the front of its part of the statement, each hour lent its own part of that, and all of them `hour` in turn.
-fn area_into_numbers(terms: Terms, body: &[u8], hour: &mut [u8], statement: &mut [i64])
+// The statement of an area at the front of its part. It is written as bytes into `room` first, so that what writes an area stands once.
+fn area_into_numbers(terms: Terms, body: &[u8], room: &mut [u8], statement: &mut [i64])
     requires { ⌜ (TermsKept terms) × (Sound plainPoints (now body)) ⌝ }
-    requires { ⌜ (8 * hourNumbers mostCoordinators ≤ length (now hour)) × (areaNumbers (coordinatorsOf (now body)) ≤ length (now statement)) ⌝ }
+    requires { ⌜ (8 * areaNumbers mostCoordinators ≤ length (now room)) × (areaNumbers (coordinatorsOf (now body)) ≤ length (now statement)) ⌝ }
     ensures { λ _. ⌜ now (statement .exit) ≡ block terms (now (body .entry))
         ++ drop (areaNumbers (coordinatorsOf (now (body .entry)))) (now (statement .entry)) ⌝ }
 {
-    let day = amounts::day_facts(terms, body);
-    let load = words::word(body, 5) as usize;
-    let count = words::word(body, 6) as usize;
-    let mut at = body::first_hour(load, count);
-    let mut to: usize = 0;
-    let mut h: usize = 0;
-    while h < limits::DAY_HOURS {
-        hour_into_numbers(terms, day, body, h, at, hour, &mut statement[to..]);
-        at = body::next_hour(load, count, h, at);
-        to += statement::hour_numbers(count);
-        h += 1;
-    }
+    statement::write_area(terms, body, room);
+    let bytes = 8 * statement::area_numbers(words::word(body, 6) as usize);
+    encoding::take_numbers(&room[..bytes], statement);
 }
 
 // The blocks of n areas, each lent its own part of the statement.
@@ -109,13 +79,13 @@ fn write_areas(peak: u32, days: &[u32], file: &[u8], n: usize, statement: &mut [
     ensures { λ _. ⌜ now (statement .exit) ≡ statementTo (listed (now (days .entry)) (now (file .entry))) (now (file .entry)) n
         ++ drop (neededTo (now (file .entry)) n) (now (statement .entry)) ⌝ }
 {
-    let mut hour = [0u8; MOST_HOUR_BYTES];
+    let mut room = [0u8; 8 * MOST_AREA_NUMBERS];
     let mut to: usize = 0;
     let mut k: usize = 0;
     while k < n {
         let body = contents::body_at(file, k);
         let terms = terms_of(peak, days, k, body);
-        area_into_numbers(terms, body, &mut hour, &mut statement[to..]);
+        area_into_numbers(terms, body, &mut room, &mut statement[to..]);
         to += statement::area_numbers(words::word(body, 6) as usize);
         k += 1;
     }

@@ -68,7 +68,7 @@ fn no_rates() -> Rates
 }
 
 // Most hours have no amount, and are spared the divisions.
-pub fn rates_of(amount: i64, whole: u32, count: usize) -> Rates
+fn rates_of(amount: i64, whole: u32, count: usize) -> Rates
     requires { ⌜ whole ≤ mostDemand ⌝ }
     ensures { λ r. ⌜ (r .divided ≡ false → r ≡ ratesOf amount whole) ⌝ }
 {
@@ -115,7 +115,7 @@ fn nearest(whole: u32, rates: Rates, running: u32) -> u64
 }
 
 // R(A × C / T) at running demand C; 0 where there is no demand.
-pub fn up_to(amount: i64, whole: u32, rates: Rates, running: u32) -> i64
+fn up_to(amount: i64, whole: u32, rates: Rates, running: u32) -> i64
     requires { ⌜ ((rates .divided ≡ false → rates ≡ ratesOf amount whole) × ((running ≤ whole) × ((whole ≤ mostDemand) × (natAbs amount * whole < 2 ^ 63)))) ⌝ }
     ensures { λ r. ⌜ r ≡ upTo amount whole running ⌝ }
 {

@@ -73,7 +73,7 @@ fn hour_charges(amount: i64, body: &[u8], at: usize, charges: &mut [u8])
 }
 
 // Hour h, which starts at word `at`, at the front of a block. `day` has the facts of the area's day.
-pub fn write_hour(terms: Terms, day: Day, body: &[u8], h: usize, at: usize, block: &mut [u8])
+fn write_hour(terms: Terms, day: Day, body: &[u8], h: usize, at: usize, block: &mut [u8])
     requires { ⌜ AtHour terms day (now body) h at ⌝ }
     requires { ⌜ 8 * hourNumbers (coordinatorsOf (now body)) ≤ length (now block) ⌝ }
     ensures { λ _. ⌜ now (block .exit) ≡ encoded (hourBlock terms (now (body .entry)) h)

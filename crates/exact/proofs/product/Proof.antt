@@ -7,24 +7,18 @@ use lib.Signed.{natAbs-le}
 use mir.Syntax.{w32, w64}
 use mir.Val.{SFits, toZ, ofZ}
 use mir.ValLaws.{toZ-ofZ, toZ-pos}
-use mir.Facts.{sfits-widen}
 use Rattle.exact.proofs.Magnitude.{abs-mul≤}
-use Rattle.exact.proofs.Machine.{within}
+use Rattle.exact.proofs.Machine.{within, word-fits, widened}
 use Rattle.exact.proofs.product.Statement.{statement}
 use Rattle.exact.proofs.product.Tie as tie
 
 factors : (c : tie.Start) → toZ w64 (c .args .a) *ℤ toZ w64 (ofZ w64 (toZ w32 (ofZ w32 (c .args .b)))) ≡ pos (c .args .a) *ℤ c .args .b
-factors c =
-    let f : SFits w64 (c .args .b) = sfits-widen tt (c .fits .b) in
-    simp (toZ-pos w64 (c .args .a) (omega arith), toZ-ofZ w32 _ (c .fits .b), toZ-ofZ w64 _ f)
+factors c = rw (toZ-pos w64 (c .args .a) (omega arith), widened (c .fits .b))
 
 fits : (c : tie.Start) → SFits w64 (pos (c .args .a) *ℤ c .args .b)
 fits c =
     let b : natAbs (c .args .b) ≤ 2147483648 = natAbs-le (c .args .b) (c .fits .b .sfits) in
     within w64 _ (omega (arith, abs-mul≤ 4294967295 2147483648 (pos (c .args .a)) (c .args .b) (omega arith) b))
-
-cast-result-2 : tie.Need-cast-result-2
-cast-result-2 c = rw (toZ-ofZ w32 _ (c .fits .b)) (sfits-widen tt (c .fits .b))
 
 mul-result : tie.Need-mul-result
 mul-result c = rw (factors c) (fits c)
@@ -33,4 +27,4 @@ returns : tie.Need-returns
 returns c = rw (factors c) (toZ-ofZ w64 _ (fits c))
 
 pub product-spec : {M : Type 1} → statement M
-product-spec = tie.close (tie.spec (λ c. search needs) cast-result-2 mul-result returns)
+product-spec = tie.close (tie.spec (λ c. search needs) (λ c. word-fits (c .fits .b)) mul-result returns)

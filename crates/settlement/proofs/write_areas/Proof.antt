@@ -11,7 +11,7 @@ use Rattle.exact.proofs.Lending.{lent-back}
 use Rattle.limits.specs.Ranges.{mostCoordinators}
 use Rattle.body.specs.Layout.{coordinatorsOf}
 use Rattle.contents.specs.File.{areasOf, bodyAt}
-use Rattle.statement.specs.Block.{hourNumbers, areaNumbers, block}
+use Rattle.statement.specs.Block.{areaNumbers, block}
 use Rattle.settlement.specs.Settlement.{neededTo, termsAt, statementTo, listed}
 use Rattle.settlement.proofs.Areas.{needed-more, needed-within, statement-more, statement-length, placed, head-inside, area-few, needed-small}
 use Rattle.settlement.proofs.Accepted.{terms-there}
@@ -19,12 +19,12 @@ use Rattle.settlement.proofs.write_areas.Statement.{statement}
 use Rattle.settlement.proofs.write_areas.Tie as tie
 
 abbrev Inv-loop : tie.InvT-loop
-Inv-loop peak days file n statement₀ hour₀ to₀ k₀ statement hour to k =
+Inv-loop peak days file n statement₀ room₀ to₀ k₀ statement room to k =
     (k ≤ n) × (to ≡ neededTo file k) × (statement ≡ statementTo (listed days file) file k ++ drop to statement₀)
-    × (length statement ≡ length statement₀) × (length hour ≡ 8 * hourNumbers mostCoordinators)
+    × (length statement ≡ length statement₀) × (length room ≡ 8 * areaNumbers mostCoordinators)
 
 abbrev μ-loop : tie.MeasureT-loop
-μ-loop peak days file n statement₀ hour₀ to₀ k₀ statement hour to k = n - k
+μ-loop peak days file n statement₀ room₀ to₀ k₀ statement room to k = n - k
 
 abbrev start : tie.In-loop Inv-loop μ-loop → tie.Start Inv-loop μ-loop
 start c = c .before .before .before .before

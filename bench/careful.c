@@ -16,7 +16,7 @@ typedef struct {
 } area_t;
 
 typedef struct {
-    int64_t on, off, down;
+    int64_t on, off, down, surcharge, credit;
 } amounts_t;
 
 #define MISSING INT32_MIN
@@ -276,13 +276,13 @@ static inline int64_t scaled_multiplier(const area_t *a, uint32_t tier)
     return (tier == 2 ? 5 : 8) * (100 + (int64_t)a->days);
 }
 
-/* The three amounts of an hour. Returns 0, or what a needed price refuses. */
+/* The amounts of an hour. Returns 0, or what a needed price refuses. */
 static uint32_t amounts_of(const area_t *a, uint32_t peak_word, const uint8_t *hour, size_t h, amounts_t *amounts)
 {
     int peak = peak_hour(peak_word, h);
     uint32_t upward = upward_of(hour), tier = tier_of(upward, word(hour, 6)), downward;
     int64_t price = 0;
-    amounts->on = amounts->off = amounts->down = 0;
+    amounts->on = amounts->off = amounts->down = amounts->surcharge = amounts->credit = 0;
     if (a->flag != 1) {
         return 0;
     }
@@ -293,10 +293,13 @@ static uint32_t amounts_of(const area_t *a, uint32_t peak_word, const uint8_t *h
         }
     }
     if (peak && a->tier >= 2) {
-        int64_t surcharge = (int64_t)a->upward * a->hub * scaled_multiplier(a, a->tier);
+        int64_t product = (int64_t)a->upward * a->hub * scaled_multiplier(a, a->tier);
+        int64_t surcharge = product < 0 ? 0 : product;
         int64_t credit = tier == 0 ? (int64_t)a->upward * price * 4 : 0;
-        int64_t due = (surcharge < 0 ? 0 : surcharge) - credit;
+        int64_t due = surcharge - credit;
         amounts->on = due <= 0 ? 0 : rounded(due, 400000);
+        amounts->surcharge = rounded(surcharge, 400000);
+        amounts->credit = rounded(credit, 400000);
     }
     if (!peak && tier >= 2) {
         int64_t due = (int64_t)upward * price * scaled_multiplier(a, tier);
@@ -343,6 +346,8 @@ static uint64_t settle_area(uint32_t peak, const uint8_t *body, size_t start, ui
         to = put(to, amounts.on);
         to = put(to, amounts.off);
         to = put(to, amounts.down);
+        to = put(to, amounts.surcharge);
+        to = put(to, amounts.credit);
         if (a.kind == 1) {
             uint32_t total = total_demand(&a, demands), running = 0, i;
             int64_t before = 0;
@@ -378,7 +383,7 @@ uint64_t careful_settle(const uint8_t *file, size_t file_len, uint8_t *statement
     n = word(file, 2);
     peak = word(file, 3);
     for (k = 0; k < n; k++) {
-        needed += 24 * (3 + (size_t)word(file, word(file, 5 + 3 * k) + 6));
+        needed += 24 * RSE8080_HOUR_NUMBERS((size_t)word(file, word(file, 5 + 3 * k) + 6));
     }
     if (statement_len / 8 < needed) {
         return REFUSED(13, needed);

@@ -13,10 +13,19 @@
 extern "C" {
 #endif
 
-/* Sizes that are enough for every day file. */
-#define RSE8080_MOST_FILE_BYTES 65536u       /* a longer file is refused with 1 */
-#define RSE8080_MOST_NUMBERS 2280u           /* the numbers of the longest statement */
-#define RSE8080_MOST_STATEMENT_BYTES 18240u  /* the same in bytes, 8 a number */
+/* The numbers of an hour of a statement: which stands where, how many they are before the charges, and with K charges. */
+#define RSE8080_ON_PEAK 0u       /* the on-peak amount */
+#define RSE8080_OFF_PEAK 1u      /* the off-peak amount */
+#define RSE8080_DOWNWARD 2u      /* the downward amount */
+#define RSE8080_SURCHARGE 3u     /* S, the surcharge before the credit */
+#define RSE8080_CREDIT 4u        /* the credit, which may be above S or below 0 */
+#define RSE8080_AMOUNTS_SHOWN 5u /* the first charge stands here */
+#define RSE8080_HOUR_NUMBERS(K) (RSE8080_AMOUNTS_SHOWN + (K))
+
+/* Sizes that are enough for every day file. The longest statement has an area with 64 coordinators and seven with one. */
+#define RSE8080_MOST_FILE_BYTES 65536u /* a longer file is refused with 1 */
+#define RSE8080_MOST_NUMBERS (24u * RSE8080_HOUR_NUMBERS(64u) + 7u * 24u * RSE8080_HOUR_NUMBERS(1u)) /* 2,664 */
+#define RSE8080_MOST_STATEMENT_BYTES (8u * RSE8080_MOST_NUMBERS)                                     /* 21,312 */
 
 /* What the number of an answer means, and its place. "Word" is the number of a 32-bit word of the file, counted from 0.
  * docs/REFUSALS.md says of each what to look at. */
@@ -41,8 +50,9 @@ extern "C" {
  * file, file_len            The day file (docs/FORMAT.md).
  * statement, statement_len  Where the statement is written: 8 bytes a number, little-endian, two's complement, in cents.
  *                           Area after area in file order, each 24 hours; an hour is its on-peak amount, its off-peak
- *                           amount, its downward amount, and then a charge for each of the area's K coordinators. The
- *                           numbers needed are the sum of 24 * (3 + K) over the areas. Room for
+ *                           amount, its downward amount, S, the credit, and then a charge for each of the area's K
+ *                           coordinators. The charges add up to the three amounts; S and the credit are shown, and nobody
+ *                           is charged them. The numbers needed are the sum of 24 * (5 + K) over the areas. Room for
  *                           RSE8080_MOST_STATEMENT_BYTES is enough for every file.
  *
  * Returns number * 1,000,000 + place; the place is always below 1,000,000. 0: settled. Anything else: refused, and no byte

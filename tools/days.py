@@ -21,6 +21,7 @@ import sys
 sys.dont_write_bytecode = True  # running a tool leaves nothing behind in the repository
 
 import arguments
+from reference import AMOUNTS_SHOWN
 
 MISSING = -2147483648
 PEAK_WORD = 4194240
@@ -120,7 +121,7 @@ class Day:
         return bytes_of(self.words())
 
     def numbers_needed(self):
-        return sum(HOURS * (3 + len(area.coordinators)) for area in self.areas)
+        return sum(HOURS * (AMOUNTS_SHOWN + len(area.coordinators)) for area in self.areas)
 
     # Places: the word where a number of the day stands. Areas, hours, pairs and coordinators
     # count from 0.

@@ -1,5 +1,5 @@
 #!/usr/bin/env python3
-"""The rules of document 01, and of document 02 as far as its requests are taken up (§1, §2, §3), as
+"""The rules of document 01, and of document 02 as far as its requests are taken up (§1 to §4), as
 plain functions: the check, the settlement, the price of an hour, the sharing of an amount, the
 lookup, the C call, the program, the record of failing days and the settlement with it.
 
@@ -7,8 +7,8 @@ It is written to be read beside these documents and to be right, not to be fast.
 and amounts are exact fractions in MW, dollars a MWh and dollars, and are rounded once, by R. It
 shares no code with the crates, so that an agreement of the two says something.
 
-Run as a program it prints the figures T1 to T12, that of document 02, §2, what a record counts
-(§3), and Case P, and exits 1 if one is off.
+Run as a program it prints the figures T1 to T12, T6 and T7 with the S and the credit that they show
+(document 02, §4), the figure of §2, what a record counts (§3), and Case P, and exits 1 if one is off.
 """
 
 import datetime
@@ -28,6 +28,9 @@ PEAK_WORD = 4194240
 HOURS = 24
 MOST_DEMAND = 100000000
 MOST_SHARED = 10000000000
+
+# The numbers of an hour before its charges: "The hour becomes 5 + K numbers" (document 02, §4).
+AMOUNTS_SHOWN = 5
 
 # The record of document 02, §3: the calendar days that it reaches over, the areas that it holds at
 # most, its words, and the first day that a file can have.
@@ -356,17 +359,32 @@ def surcharge(M, P, of_tier, days):
     return max(Fraction(0), M * P * multiplier(of_tier) * (1 + Fraction(days, 100)))
 
 
-def on_peak(area, hour, price, d):
-    """R(max(0, S - credit)) in cents, peak hours only; 0 if day tier <= 1."""
-    if not hour.peak or day_tier(area) <= 1:
-        return 0
+def surcharge_and_credit(area, hour, price, d):
+    """S and the credit of a peak hour of a day of tier 2 or 3, in dollars."""
     M = highest_deficiency(area)
     # P the greater hub price.
     P = max(hub_dollars(hub) for hub in area.hub_prices)
     S = surcharge(M, P, day_tier(area), d)
     # In a peak hour of tier 0 the credit is M × its load-weighted price; elsewhere 0.
     credit = M * market_dollars(price) if hour_tier(hour) == 0 else Fraction(0)
+    return S, credit
+
+
+def on_peak(area, hour, price, d):
+    """R(max(0, S - credit)) in cents, peak hours only; 0 if day tier <= 1."""
+    if not hour.peak or day_tier(area) <= 1:
+        return 0
+    S, credit = surcharge_and_credit(area, hour, price, d)
     return cents(max(Fraction(0), S - credit))
+
+
+def before_the_credit(area, hour, price, d):
+    """Document 02, §4: S and the credit, each rounded by R on its own; both are 0 outside peak hours,
+    on a day of tier 0 or 1, and with flag 0."""
+    if not hour.peak or day_tier(area) in (0, 1) or area.flag == 0:
+        return 0, 0
+    S, credit = surcharge_and_credit(area, hour, price, d)
+    return cents(S), cents(credit)
 
 
 def off_peak(area, hour, price, d):
@@ -386,20 +404,25 @@ def downward(W, mec):
     return 0
 
 
-def amounts(area, hour, d):
-    """On-peak, off-peak and downward amount of an hour with this d, or refusal 16 or 11."""
+def needed_price(area, hour):
+    """The price of an hour that needs one, or refusal 16 or 11; None for an hour that needs none."""
+    if not price_is_needed(area, hour):
+        return None
+    # 16: too few intervals, place as for 11, directly before 11.
+    if too_few_present(hour.pairs):
+        raise Refused(16, hour.first_interval)
+    # 11 remains for enough prices with no quantity.
+    price = load_weighted(hour.pairs)
+    if price is None:
+        raise Refused(11, hour.first_interval)
+    return price
+
+
+def amounts(area, hour, price, d):
+    """On-peak, off-peak and downward amount of an hour at its price, with this d."""
     # All amounts of an area with EDAM flag 0 are 0.
     if area.flag == 0:
         return 0, 0, 0
-    price = None
-    if price_is_needed(area, hour):
-        # 16: too few intervals, place as for 11, directly before 11.
-        if too_few_present(hour.pairs):
-            raise Refused(16, hour.first_interval)
-        # 11 remains for enough prices with no quantity.
-        price = load_weighted(hour.pairs)
-        if price is None:
-            raise Refused(11, hour.first_interval)
     return (
         on_peak(area, hour, price, d),
         off_peak(area, hour, price, d),
@@ -435,16 +458,18 @@ def charges(area, hour, A):
 
 
 def numbers_needed(areas):
-    """The sum of 24(3 + K)."""
-    return sum(HOURS * (3 + len(area.coordinators)) for area in areas)
+    """The sum of 24(5 + K)."""
+    return sum(HOURS * (AMOUNTS_SHOWN + len(area.coordinators)) for area in areas)
 
 
 def block(area, d):
-    """24 hours of on-peak amount, off-peak amount, downward amount, K charges."""
+    """24 hours of on-peak amount, off-peak amount, downward amount, S, credit, K charges."""
     numbers = []
     for hour in area.hours:
-        three = amounts(area, hour, d)
+        price = needed_price(area, hour)
+        three = amounts(area, hour, price, d)
         numbers += three
+        numbers += before_the_credit(area, hour, price, d)
         # A = the hour's three amounts added.
         numbers += charges(area, hour, sum(three))
     return numbers
@@ -691,8 +716,9 @@ def program(file_bytes):
     left = statement
     for area in areas:
         for hour_ending in range(1, HOURS + 1):
-            hour_charges = left[3 : 3 + len(area.coordinators)]
-            left = left[3 + len(area.coordinators) :]
+            hour_numbers = AMOUNTS_SHOWN + len(area.coordinators)
+            hour_charges = left[AMOUNTS_SHOWN:hour_numbers]
+            left = left[hour_numbers:]
             for coordinator, charge in zip(area.coordinators, hour_charges):
                 total += charge
                 if charge != 0:
@@ -737,8 +763,14 @@ def tier_figures():
         yield "%s Q %s U %s" % (name, Q, U), due, tier(Fraction(U), Fraction(Q))
 
 
+# The numbers of an hour and of a day with one coordinator.
+HOUR_OF_ONE = AMOUNTS_SHOWN + 1
+DAY_OF_ONE = HOURS * HOUR_OF_ONE
+
+
 def on_peak_figures():
-    """T6 and T7, as amounts in the statement of a whole day file.
+    """T6 and T7 in the statement of a whole day file: the amount, and the S and the credit that are
+    shown beside it (document 02, §4).
 
     M 120, hubs 80.00 and 95.50, d 3, day tier 2. Hour ending 7 has the 120 MW, hour ending 8
     fails in tier 1, hours ending 9 to 11 pass at the three prices.
@@ -755,14 +787,17 @@ def on_peak_figures():
     for passed, dollars in ((8, 60), (9, 130), (10, -5)):
         area.hours[passed].pairs = [(1000, 10000 * dollars)] * 12
     file_bytes = days.Day(20260504, PEAK_WORD, [area]).to_bytes()
-    number, place, statement = settle(file_bytes, [0] * 96)
+    number, place, statement = settle(file_bytes, [0] * DAY_OF_ONE)
     assert (number, place) == (0, 0)
-    amount = [statement[4 * hour] for hour in range(HOURS)]
-    yield "T6 a failed hour", 1475475, amount[6]
-    yield "T6 a failed hour of tier 1", 1475475, amount[7]
-    yield "T7 a passed hour at 60", 755475, amount[8]
-    yield "T7 a passed hour at 130", 0, amount[9]
-    yield "T7 a passed hour at -5", 1535475, amount[10]
+    starts = range(0, DAY_OF_ONE, HOUR_OF_ONE)
+    # The on-peak amount, S and the credit.
+    shown = [(statement[at], statement[at + 3], statement[at + 4]) for at in starts]
+    yield "T6 a failed hour", (1475475, 1475475, 0), shown[6]
+    yield "T6 a failed hour of tier 1", (1475475, 1475475, 0), shown[7]
+    yield "T7 a passed hour at 60", (755475, 1475475, 720000), shown[8]
+    yield "T7 a passed hour at 130", (0, 1475475, 1560000), shown[9]
+    yield "T7 a passed hour at -5", (1535475, 1475475, -60000), shown[10]
+    yield "an hour outside peak hours", (0, 0, 0), shown[5]
 
 
 def off_peak_figures():
@@ -774,8 +809,9 @@ def off_peak_figures():
     hour = area.hours[2]
     hour.energy_up, hour.requirement, hour.pairs = 40000, 60000, [(1000, 250000)] * 12
     file_bytes = days.Day(20260504, PEAK_WORD, [area]).to_bytes()
-    number, place, statement = settle(file_bytes, [0] * 96)
-    yield "U 40, Q 60, price 25, d 5", (0, 0, 210000), (number, place, statement[4 * 2 + 1])
+    number, place, statement = settle(file_bytes, [0] * DAY_OF_ONE)
+    found = (number, place, statement[2 * HOUR_OF_ONE + 1])
+    yield "U 40, Q 60, price 25, d 5", (0, 0, 210000), found
 
 
 def record_figures():
@@ -802,9 +838,9 @@ def record_figures():
     yield "the record after 4 entries", held, record
     # 28 February is the thirtieth day before 29 March, 3 March the thirtieth before 2 April.
     for date, d in ((20240304, 3), (20240329, 3), (20240330, 2), (20240402, 1), (20240403, 0)):
-        number, place, statement = settle_recorded(record, day_of(date, 40000), [0] * 96)
+        number, place, statement = settle_recorded(record, day_of(date, 40000), [0] * DAY_OF_ONE)
         due = (0, 0, 200000 + 2000 * d)
-        yield "d %d on %d" % (d, date), due, (number, place, statement[4 * 2 + 1])
+        yield "d %d on %d" % (d, date), due, (number, place, statement[2 * HOUR_OF_ONE + 1])
 
 
 def downward_figures():

@@ -727,6 +727,11 @@ def lookup_vector_files(rng):
 # Call 2: settling
 
 
+def settle_of(day):
+    """A day in exactly the numbers that it needs: settled, or what an hour refuses."""
+    return Case(SETTLE, day.numbers_needed(), day.to_bytes())
+
+
 def settle_vector_files(rng):
     """The files of vectors/, in exactly the numbers needed."""
     for file_bytes in vector_files():
@@ -771,7 +776,7 @@ def settle_tier_figures(rng):
             hour.requirement = requirement
             parts = days.parts_of(rng, total, 4) if total > 2500000 else [total, 0, 0, 0]
             hour.set_upward(parts[-(number % 4) :] + parts[: -(number % 4)])
-        yield Case(SETTLE, 96, day.to_bytes())
+        yield settle_of(day)
 
 
 def on_peak_day(persistent_days=3, hub_a=8000, hub_b=9550, failing=120000):
@@ -804,20 +809,20 @@ def settle_on_peak_figures(rng):
         on_peak_day(hub_a=-200000, hub_b=0),
         on_peak_day(hub_a=200000, hub_b=-200000, persistent_days=30, failing=2500000),
     ):
-        yield Case(SETTLE, 96, day.to_bytes())
+        yield settle_of(day)
     # The highest U and the highest tier in different peak hours; a higher one off-peak counts not.
     day = on_peak_day()
     day.areas[0].hours[21].requirement = 20000
     day.areas[0].hours[21].non_spin = 10001
     day.areas[0].hours[22].energy_up = 900000
     day.areas[0].hours[5].energy_up = 900000
-    yield Case(SETTLE, 96, day.to_bytes())
+    yield settle_of(day)
     # The same without peak hours, and with flag 0.
     day.peak = 0
-    yield Case(SETTLE, 96, day.to_bytes())
+    yield settle_of(day)
     day.peak = PEAK_WORD
     day.areas[0].flag = 0
-    yield Case(SETTLE, 96, day.to_bytes())
+    yield settle_of(day)
 
 
 def off_peak_day(persistent_days, figures):
@@ -836,7 +841,7 @@ def settle_off_peak_figures(rng):
     figures = [(40000, 60000, 250000), (40000, 80000, 250000), (10000, 60000, 250000)]
     figures += [(0, 60000, 250000), (40000, 60000, -250000), (40000, 60000, 0)]
     for persistent_days in (5, 0, 1, 30):
-        yield Case(SETTLE, 96, off_peak_day(persistent_days, figures).to_bytes())
+        yield settle_of(off_peak_day(persistent_days, figures))
 
 
 def settle_downward_figures(rng):
@@ -863,9 +868,9 @@ def settle_downward_figures(rng):
             rest = max(0, total - 2500000)
             hour.set_downward((total - rest, rest) if number < 12 else (rest, total - rest))
             hour.mec = mec
-        yield Case(SETTLE, 96, day.to_bytes())
+        yield settle_of(day)
         day.areas[0].flag = 0
-        yield Case(SETTLE, 96, day.to_bytes())
+        yield settle_of(day)
 
 
 def settle_halves(rng):
@@ -895,15 +900,17 @@ def settle_halves(rng):
                 hour.energy_up, step = rng.choice(choices)
                 hour.pairs = [(1000, step * (2 * between(rng, 0, 9999) + 1))] * 12
         area.hours[between(rng, 6, 21)].spin = M
-        yield Case(SETTLE, 24 * 5, day.to_bytes())
+        yield settle_of(day)
 
 
 def settle_rooms(rng):
-    """Room for exactly the numbers needed, one short, none, and more: numbers past them stay."""
+    """Room for exactly the numbers needed, one short, for an hour of 3 + K or 4 + K numbers, none,
+    and more: numbers past them stay."""
     for shapes in ([SMALL], [(1, 1, 2)], [SMALL, (1, 1, 2)]):
         day = filled_day(rng, *shapes)
         room = day.numbers_needed()
-        for lent in (room, room - 1, 0, 1, room // 2, room + 1, room + 7, 2 * room):
+        column = 24 * len(shapes)
+        for lent in (room, room - 1, room - column, room - 2 * column, 0, 1, room + 1, 2 * room):
             yield Case(SETTLE, lent, day.to_bytes())
     # The longest room of the vectors program.
     yield Case(SETTLE, 8192, filled_day(rng, SMALL).to_bytes())
@@ -961,18 +968,18 @@ def settle_no_price(rng):
         for gap in gaps:
             day = failing_day(two)
             gap(day.areas[area].hours[hour])
-            yield Case(SETTLE, day.numbers_needed(), day.to_bytes())
+            yield settle_of(day)
     # Nothing is left: no price, or no quantity.
     for gap in (without_price, without_quantity):
         day = failing_day([(0, 2, 1)])
         gap(day.areas[0].hours[23])
-        yield Case(SETTLE, 96, day.to_bytes())
+        yield settle_of(day)
     # Among nine prices one of quantity 1 is enough; eight are too few at any quantity.
     for present in (9, 8):
         day = failing_day([SMALL])
         some = [(0, 7)] * (present - 1) + [(1, -300000)]
         day.areas[0].hours[23].pairs = [(500, MISSING)] * (12 - present) + some
-        yield Case(SETTLE, 96, day.to_bytes())
+        yield settle_of(day)
     # Peak hours: needed in tier 0 of a day of tier 2 or 3, also where S is 0.
     for hub, hour in ((5000, 6), (5000, 21), (-5000, 21)):
         for gap in gaps:
@@ -980,24 +987,24 @@ def settle_no_price(rng):
             day.areas[0].hours[6].energy_up = 0
             day.areas[0].hours[13].energy_up = 120000
             gap(day.areas[0].hours[hour])
-            yield Case(SETTLE, 96, day.to_bytes())
+            yield settle_of(day)
     # Not needed: peak hours of tier 1 to 3, tier 0 and 1 off-peak, a day of tier 1, flag 0.
     day = on_peak_day()
     for hour in (0, 5, 6, 7, 22, 23):
         without_price(day.areas[0].hours[hour])
     day.areas[0].hours[23].energy_up = 10000
-    yield Case(SETTLE, 96, day.to_bytes())
+    yield settle_of(day)
     for failing, flag in ((10000, 1), (120000, 0), (120000, 1)):
         day = on_peak_day(failing=failing)
         day.areas[0].flag = flag
         for hour in day.areas[0].hours:
             without_price(hour)
-        yield Case(SETTLE, 96, day.to_bytes())
+        yield settle_of(day)
     # 13 before 16 and 11.
     for gap in gaps:
         day = failing_day([SMALL])
         gap(day.areas[0].hours[0])
-        yield Case(SETTLE, 95, day.to_bytes())
+        yield Case(SETTLE, day.numbers_needed() - 1, day.to_bytes())
 
 
 def settle_no_demand(rng):
@@ -1009,15 +1016,15 @@ def settle_no_demand(rng):
         for hour in (0, 23):
             day = failing_day(shape_order)
             day.areas[ciso].hours[hour].demands = [0, 0]
-            yield Case(SETTLE, day.numbers_needed(), day.to_bytes())
+            yield settle_of(day)
         # The other area lacks a price in its last hour: areas in order.
         day = failing_day(shape_order)
         day.areas[ciso].hours[0].demands = [0, 0]
         without_price(day.areas[1 - ciso].hours[23])
-        yield Case(SETTLE, day.numbers_needed(), day.to_bytes())
+        yield settle_of(day)
     # All demands 0: no amount, flag 0 and kind 0 have nothing to refuse.
     quiet = days.quiet_day([(1, 1, 2)], demand=0)
-    yield Case(SETTLE, 120, quiet.to_bytes())
+    yield settle_of(quiet)
     for kind, flag in ((1, 0), (1, 1), (0, 1)):
         day = failing_day([(kind, 1, 1)])
         day.areas[0].flag = flag
@@ -1025,19 +1032,19 @@ def settle_no_demand(rng):
             hour.demands = [0]
             hour.set_downward((20000, 0))
             hour.mec = -300000
-        yield Case(SETTLE, 96, day.to_bytes())
+        yield settle_of(day)
     # Amounts that cancel: 20 MW at 25.00 and 1.25 is $625.00, 20 MW at -31.25 takes it back.
     for mec in (-312500, -312501, -312499):
         day = days.quiet_day([(1, 1, 2)], peak=0, demand=0)
         hour = day.areas[0].hours[17]
         hour.requirement, hour.energy_up, hour.energy_down, hour.mec = 60000, 20000, 20000, mec
-        yield Case(SETTLE, 120, day.to_bytes())
+        yield settle_of(day)
     # Only a downward amount, in a peak hour.
     day = days.quiet_day([(1, 1, 2)], demand=0)
     day.areas[0].hours[12].regulation_down, day.areas[0].hours[12].mec = 10001, -1
-    yield Case(SETTLE, 120, day.to_bytes())
+    yield settle_of(day)
     day.areas[0].hours[12].mec = -500
-    yield Case(SETTLE, 120, day.to_bytes())
+    yield settle_of(day)
 
 
 def settle_ends(rng):
@@ -1057,7 +1064,7 @@ def settle_ends(rng):
                     hour.pairs = [(max(1, quantity), price) for quantity, price in hour.pairs]
                     if shape != SMALL:
                         hour.demands = [1, 0, 99999999]
-                yield Case(SETTLE, day.numbers_needed(), day.to_bytes())
+                yield settle_of(day)
 
 
 def settle_full_day(rng):
@@ -1065,7 +1072,7 @@ def settle_full_day(rng):
     shapes = [(0, 2, 1)] * 7 + [(1, 2, 64)]
     for style in (days.REALISTIC, days.THRESHOLDS):
         day = filled_day(rng, *shapes, style=style)
-        yield Case(SETTLE, day.numbers_needed(), day.to_bytes())
+        yield settle_of(day)
 
 
 def settle_thresholds(rng):
@@ -1073,12 +1080,12 @@ def settle_thresholds(rng):
     for _ in range(60):
         shape = rng.choice((SMALL, SMALL, (1, 1, 2)))
         day = days.random_day_of(rng, [shape], days.THRESHOLDS)
-        yield Case(SETTLE, day.numbers_needed(), day.to_bytes())
+        yield settle_of(day)
 
 
 def settle_random(rng):
     """Random days of all styles, every other one small; some have a needed price or a demand missing."""
-    for number in range(360):
+    for number in range(120):
         day = small_day(rng) if number % 2 else days.random_day(rng)
         yield Case(SETTLE, day.numbers_needed() + rng.choice((0, 0, 1, 4)), day.to_bytes())
 
@@ -1391,6 +1398,11 @@ def share_random(rng):
 # Call 6: the C call
 
 
+def c_call_of(day):
+    """A day in exactly the room that it needs: settled, or what an hour refuses."""
+    return Case(C_CALL, 8 * day.numbers_needed(), day.to_bytes())
+
+
 def c_call_rooms(rng):
     """Rooms in bytes: exact, a byte short, a byte to seven more, a number more, long, none."""
     for shapes in ([SMALL], [(1, 1, 2)], [SMALL, CISO]):
@@ -1404,19 +1416,14 @@ def c_call_rooms(rng):
 def c_call_refused(rng):
     """The numbers of the check, 12, 11 and 16: nothing is written."""
     for number, file_bytes in enumerate(refused_files(rng)):
-        yield Case(C_CALL, (768, 0)[number % 2], file_bytes)
+        yield Case(C_CALL, (1152, 0)[number % 2], file_bytes)
     day = failing_day([(1, 1, 2)])
     day.areas[0].hours[23].demands = [0, 0]
-    yield Case(C_CALL, 960, day.to_bytes())
+    yield c_call_of(day)
     for gap in (without_quantity, without_price):
         gap(day.areas[0].hours[23])
-        yield Case(C_CALL, 960, day.to_bytes())
-        yield Case(C_CALL, 959, day.to_bytes())
-
-
-def c_call_of(day):
-    """A day in exactly the room that it needs: settled, or what an hour refuses."""
-    return Case(C_CALL, 8 * day.numbers_needed(), day.to_bytes())
+        yield c_call_of(day)
+        yield Case(C_CALL, 8 * day.numbers_needed() - 1, day.to_bytes())
 
 
 def c_call_prices_seen(rng):
@@ -1511,9 +1518,75 @@ def c_call_off_peak_scaling(rng):
             yield c_call_of(day)
 
 
+def credited_day(hub, prices, flag=1, peak=PEAK_WORD, failing=12500):
+    """M 12.5 MW in hour ending 7, and a passed peak hour for each of the prices, 15 at most. In tier 2
+    and with d 0 S is 125 eighths of a cent for each cent of the hub price, and the credit an eighth for
+    each unit of the price."""
+    day = days.quiet_day([SMALL], peak=peak, pair=(1000, 0))
+    area = day.areas[0]
+    area.flag, area.persistent_days, area.hub_a, area.hub_b = flag, 0, hub, hub
+    for hour in area.hours:
+        hour.requirement = 100000
+    area.hours[6].energy_up = failing
+    for hour, price in zip(area.hours[7:22], prices):
+        hour.pairs = [(1000, price)] * 12
+    return day
+
+
+AROUND_0 = range(-7, 8)
+
+
+def settle_surcharge_shown(rng):
+    """S at 15 5/8 and at 31 1/4 cents, and credits within a cent of it on both sides: what is shown
+    leaves the amount, a cent more or a cent less. The same in tier 1 and with flag 0: both are 0."""
+    for hub in (1, 2):
+        prices = [125 * hub + step for step in AROUND_0]
+        yield settle_of(credited_day(hub, prices))
+    yield settle_of(credited_day(2, prices, failing=10000))
+    yield settle_of(credited_day(2, prices, flag=0))
+
+
+def c_call_surcharge_shown(rng):
+    """S and the credit at every eighth of a cent on its own, S at 0 and below, the credit around S, 0
+    and far above S; in tier 1, 2 and 3, with flag 0 and without peak hours; two areas, and shares."""
+    for hub in range(-1, 9):
+        for prices in (
+            [125 * hub + step for step in AROUND_0],
+            AROUND_0,
+            [4 * (2 * step + 1) for step in AROUND_0],
+            [between(rng, -20000000, 20000000) for _ in AROUND_0],
+        ):
+            yield c_call_of(credited_day(hub, prices))
+    prices = [125 * 8 + step for step in AROUND_0]
+    for failing in (9999, 10000, 10001, 50000, 50001):
+        for flag, peak in ((1, PEAK_WORD), (0, PEAK_WORD), (1, 0)):
+            yield c_call_of(credited_day(8, prices, flag, peak, failing))
+    # Passed and failed hours side by side: tier 1, 2 and 3 have no credit.
+    day = credited_day(8, prices)
+    for hour, upward in zip(day.areas[0].hours[8:], (1, 10000, 10001, 12500, 0, 12499)):
+        hour.regulation_up = upward
+    day.areas[0].hours[9].requirement = 20000
+    yield c_call_of(day)
+    # The largest S and credits, and the most negative credit.
+    for hub, price in ((200000, 20000000), (200000, -20000000), (-200000, -20000000)):
+        day = credited_day(hub, [price] * 15)
+        day.areas[0].persistent_days = 30
+        day.areas[0].hours[6].set_upward([2500000] * 4)
+        yield c_call_of(day)
+    # Neither is shared: coordinators of two areas, with amounts and without.
+    for hub in (1, 3, 8):
+        day = days.quiet_day([SMALL, CISO], pair=(1000, 0))
+        for area in day.areas:
+            one = credited_day(hub, [125 * hub + step for step in AROUND_0]).areas[0]
+            area.hub_a = area.hub_b = hub
+            for hour, like in zip(area.hours, one.hours):
+                hour.requirement, hour.energy_up, hour.pairs = 100000, like.energy_up, like.pairs
+        yield c_call_of(day)
+
+
 def c_call_random(rng):
     """Random days, and the smaller files of vectors/."""
-    for number in range(60):
+    for number in range(300):
         day = small_day(rng) if number % 2 else days.random_day(rng)
         yield Case(C_CALL, 8 * day.numbers_needed() + rng.choice((0, 3, 16)), day.to_bytes())
     for file_bytes in vector_files():
@@ -2070,6 +2143,7 @@ GROUPS = (
     (SETTLE, settle_off_peak_figures),
     (SETTLE, settle_downward_figures),
     (SETTLE, settle_halves),
+    (SETTLE, settle_surcharge_shown),
     (SETTLE, settle_rooms),
     (SETTLE, settle_refused),
     (SETTLE, settle_no_price),
@@ -2083,6 +2157,7 @@ GROUPS = (
     (C_CALL, c_call_prices_seen),
     (C_CALL, c_call_order_of_hours),
     (C_CALL, c_call_off_peak_scaling),
+    (C_CALL, c_call_surcharge_shown),
     (C_CALL, c_call_random),
     (ENTER, enter_sequences),
     (ENTER, enter_calendar),

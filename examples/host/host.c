@@ -1,4 +1,5 @@
-/* A host of the settlement: reads a day file, settles it, and prints the charges, or says in words why it is refused.
+/* A host of the settlement: reads a day file, settles it, and prints the charges, with the surcharge and the credit of each hour that
+ * has them, or says in words why it is refused.
  *
  *     host FILE
  *
@@ -55,27 +56,40 @@ static int refused(uint64_t answer)
     return 1;
 }
 
-static void print_charge(uint32_t area, uint32_t coordinator, unsigned hour, int64_t cents)
+static void print_dollars(const char *before, int64_t cents, const char *behind)
 {
     uint64_t size = cents < 0 ? 0 - (uint64_t)cents : (uint64_t)cents;
-    printf("area %u, coordinator %u, hour ending %u: %s$%llu.%02u\n", (unsigned)area, (unsigned)coordinator, hour, cents < 0 ? "-" : "",
-           (unsigned long long)(size / 100), (unsigned)(size % 100));
+    printf("%s%s$%llu.%02u%s", before, cents < 0 ? "-" : "", (unsigned long long)(size / 100), (unsigned)(size % 100), behind);
 }
 
-/* The charges of one area, whose first number is number `at` of the statement. Returns the first number behind it. */
+/* An hour whose first number is number `at` of the statement: what its on-peak amount comes from, and its charges. */
+static void print_hour(uint32_t area, size_t body, unsigned hour, size_t at)
+{
+    int64_t surcharge = rse8080_cents(statement, at + RSE8080_SURCHARGE);
+    int64_t credit = rse8080_cents(statement, at + RSE8080_CREDIT);
+    uint32_t i;
+    if (surcharge != 0 || credit != 0) {
+        printf("area %u, hour ending %u: ", (unsigned)area, hour);
+        print_dollars("surcharge ", surcharge, ", ");
+        print_dollars("credit ", credit, ", ");
+        print_dollars("on-peak amount ", rse8080_cents(statement, at + RSE8080_ON_PEAK), "\n");
+    }
+    for (i = 0; i < word(body + 6); i++) {
+        int64_t cents = rse8080_cents(statement, at + RSE8080_AMOUNTS_SHOWN + i);
+        if (cents != 0) {
+            printf("area %u, coordinator %u, hour ending %u: ", (unsigned)area, (unsigned)word(body + 7 + i), hour);
+            print_dollars("", cents, "\n");
+        }
+    }
+}
+
+/* One area, whose first number is number `at` of the statement. Returns the first number behind it. */
 static size_t print_area(uint32_t area, size_t body, size_t at)
 {
-    uint32_t coordinators = word(body + 6);
     unsigned hour;
-    uint32_t i;
     for (hour = 1; hour <= 24; hour++) {
-        at += 3;
-        for (i = 0; i < coordinators; i++, at++) {
-            int64_t cents = rse8080_cents(statement, at);
-            if (cents != 0) {
-                print_charge(area, word(body + 7 + i), hour, cents);
-            }
-        }
+        print_hour(area, body, hour, at);
+        at += RSE8080_HOUR_NUMBERS(word(body + 6));
     }
     return at;
 }

@@ -1,4 +1,4 @@
--- The amounts of an hour of a sound body are within what can be shared.
+-- What an hour of a sound body shows is within what can be shared.
 use Prim.Native.Nat.{ℕ, _≤_, _<_, zero-le}
 use mathlib.Core.Bool.{Bool, true, false, cond, not, _&&_}
 use mathlib.Core.List.{List}
@@ -18,8 +18,9 @@ use Rattle.surcharge.specs.Surcharge.{peakHour, onPeakOf, offPeakOf}
 use Rattle.amounts.specs.declared.Amounts.{Amounts}
 use Rattle.amounts.specs.Ranges.{AmountsRanged}
 use Rattle.amounts.specs.Amounts.{upwardAt, tierAt, dayTier, dayUpward, hubPrice, hourPrice, priceFrom, onPeakAtPrice, offPeakAtPrice}
-use Rattle.amounts.specs.Amounts.{onPeakAmount, offPeakAmount, downwardAmount, amountAt, amountsOf}
+use Rattle.amounts.specs.Amounts.{onPeakAmount, offPeakAmount, downwardAmount, surchargeAt, creditAtPrice, creditAt, amountAt, amountsOf}
 use Rattle.surcharge.proofs.Sizes.{mostOnPeakAmount, mostOffPeakAmount, mostDownwardAmount, on-peak-small, off-peak-small, downward-small}
+use Rattle.surcharge.proofs.Sizes.{surcharge-in-cents-small, credit-in-cents-small}
 use Rattle.amounts.proofs.Quantities as Q
 use Rattle.amounts.proofs.Hours.{hour-ranged, pairs-ranged, most-small, hub-small}
 
@@ -34,7 +35,7 @@ module _ (body : List ℕ) (sound : Sound plainPoints body) (h : ℕ) (below : h
   price-small = price-within _ _ (pairs-ranged body sound h below .ranged)
 
   module _ (terms : Terms) where
-    pub down-small : natAbs (downwardAmount terms body h) ≤ mostDownwardAmount
+    down-small : natAbs (downwardAmount terms body h) ≤ mostDownwardAmount
     unfolding downwardAmount
     down-small =
         where-made mostDownwardAmount (eqb (flagOf body) 1) _
@@ -44,14 +45,26 @@ module _ (body : List ℕ) (sound : Sound plainPoints body) (h : ℕ) (below : h
       on-of : natAbs (onPeakOf terms (dayUpward terms body) (hubPrice body) (dayTier terms body) (tierAt body h) (hourPrice body h)) ≤ mostOnPeakAmount
       on-of = on-peak-small terms kept _ (most-small body sound terms) _ (dayTier terms body) (tierAt body h) _ (hub-small body sound) price-small
 
-      pub on-small : natAbs (onPeakAmount terms body h) ≤ mostOnPeakAmount
+      on-small : natAbs (onPeakAmount terms body h) ≤ mostOnPeakAmount
       unfolding onPeakAtPrice onPeakAmount
       on-small = where-made mostOnPeakAmount (eqb (flagOf body) 1 && peakHour terms h) _ on-of
+
+      surcharge-small : natAbs (surchargeAt terms body h) ≤ mostOnPeakAmount
+      unfolding surchargeAt
+      surcharge-small =
+          where-made mostOnPeakAmount (eqb (flagOf body) 1 && peakHour terms h) _
+          (surcharge-in-cents-small terms kept _ (most-small body sound terms) _ (dayTier terms body) (hub-small body sound))
+
+      credit-small : natAbs (creditAt terms body h) ≤ mostOnPeakAmount
+      unfolding creditAtPrice creditAt
+      credit-small =
+          where-made mostOnPeakAmount (eqb (flagOf body) 1 && peakHour terms h) _
+          (credit-in-cents-small terms kept _ (most-small body sound terms) (dayTier terms body) (tierAt body h) _ price-small)
 
       off-of : natAbs (offPeakOf terms (upwardAt body h) (tierAt body h) (hourPrice body h)) ≤ mostOffPeakAmount
       off-of = off-peak-small terms kept _ (Q.upward-small body (hourAt body h) (hour-ranged body sound h below)) (tierAt body h) _ price-small
 
-      pub off-small : natAbs (offPeakAmount terms body h) ≤ mostOffPeakAmount
+      off-small : natAbs (offPeakAmount terms body h) ≤ mostOffPeakAmount
       unfolding offPeakAtPrice offPeakAmount
       off-small = where-made mostOffPeakAmount (eqb (flagOf body) 1 && not (peakHour terms h)) _ off-of
 
@@ -73,17 +86,25 @@ module _ (body : List ℕ) (sound : Sound plainPoints body) (h : ℕ) (below : h
 
 -- the amounts that an hour was found to have
 module _ (terms : Terms) (body : List ℕ) (h : ℕ) (amounts : Amounts) (is : amounts ≡ amountsOf terms body h) where
-  pub on-is : amounts .on .0 ≡ onPeakAmount terms body h
+  on-is : amounts .on .0 ≡ onPeakAmount terms body h
   unfolding amountsOf
   on-is = ap (λ a. a .on .0) is
 
-  pub off-is : amounts .off .0 ≡ offPeakAmount terms body h
+  off-is : amounts .off .0 ≡ offPeakAmount terms body h
   unfolding amountsOf
   off-is = ap (λ a. a .off .0) is
 
-  pub down-is : amounts .down .0 ≡ downwardAmount terms body h
+  down-is : amounts .down .0 ≡ downwardAmount terms body h
   unfolding amountsOf
   down-is = ap (λ a. a .down .0) is
+
+  surcharge-is : amounts .surcharge .0 ≡ surchargeAt terms body h
+  unfolding amountsOf
+  surcharge-is = ap (λ a. a .surcharge .0) is
+
+  credit-is : amounts .credit .0 ≡ creditAt terms body h
+  unfolding amountsOf
+  credit-is = ap (λ a. a .credit .0) is
 
   -- A of them is the hour's
   pub amount-is : (a : ℤ) → a ≡ (amounts .on .0 +ℤ amounts .off .0) +ℤ amounts .down .0 → a ≡ amountAt terms body h
@@ -96,4 +117,6 @@ module _ (terms : Terms) (body : List ℕ) (h : ℕ) (amounts : Amounts) (is : a
         on = rw on-is (omega (arith, on-small body sound h below terms kept));
         off = rw off-is (omega (arith, off-small body sound h below terms kept));
         down = rw down-is (omega (arith, down-small body sound h below terms));
+        surcharge = rw surcharge-is (omega (arith, surcharge-small body sound h below terms kept));
+        credit = rw credit-is (omega (arith, credit-small body sound h below terms kept));
       }

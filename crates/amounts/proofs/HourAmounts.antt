@@ -1,4 +1,4 @@
--- The three amounts of an hour by flag and peak hour, with the price where it is needed.
+-- The amounts of an hour by flag and peak hour, with the price where it is needed.
 use Prim.Native.Nat.{ℕ, _≤_, zero-le}
 use mathlib.Core.Bool.{Bool, true, false}
 use mathlib.Core.List.{List}
@@ -13,9 +13,9 @@ use Rattle.price.proofs.Answers.{price-within}
 use Rattle.surcharge.specs.declared.Day.{Day}
 use Rattle.surcharge.specs.declared.Terms.{Terms}
 use Rattle.amounts.specs.declared.Amounts.{Amounts}
-use Rattle.surcharge.specs.Surcharge.{peakHour, onPeakOf, offPeakOf, downwardOf, needsPrice}
+use Rattle.surcharge.specs.Surcharge.{peakHour, onPeakOf, surchargeInCents, creditInCents, offPeakOf, downwardOf, needsPrice}
 use Rattle.amounts.specs.Amounts.{downwardFrom, upwardAt, tierAt, dayTier, dayUpward, hubPrice, hourPrice, priceFrom, priceIf, dayFacts}
-use Rattle.amounts.specs.Amounts.{onPeakAtPrice, offPeakAtPrice, onPeakAmount, offPeakAmount, downwardAmount, amountsOf}
+use Rattle.amounts.specs.Amounts.{onPeakAtPrice, offPeakAtPrice, onPeakAmount, offPeakAmount, downwardAmount, surchargeAt, creditAtPrice, creditAt, amountsOf}
 use Rattle.surcharge.specs.Ranges.{DayRanged}
 use Rattle.amounts.specs.Ranges.{PairsRanged}
 use Rattle.surcharge.proofs.Unneeded.{on-unneeded, off-unneeded}
@@ -45,14 +45,21 @@ module _ (terms : Terms) (day : Day) (body : List ℕ) (is : day ≡ dayFacts te
   pub day-ranged : Sound plainPoints body → DayRanged day
   day-ranged sound = record { most = rw most-is (most-small body sound terms); hub = rw hub-is (hub-small body sound) }
 
-  -- the on-peak amount with the price that was used is the one with the hour's price
+  -- the on-peak amount and the credit with the price that was used are those with the hour's price
   pub on-is : (h : ℕ) (t : Bool) → t ≡ needsPrice 1 true (day .tier) (tierAt body h)
-      → onPeakOf terms (day .most .0) (day .hub .0) (day .tier) (tierAt body h) (priceIf t body (intervalsAt body h))
-      ≡ onPeakOf terms (dayUpward terms body) (hubPrice body) (dayTier terms body) (tierAt body h) (hourPrice body h)
+      → let used = priceIf t body (intervalsAt body h) in
+      (onPeakOf terms (day .most .0) (day .hub .0) (day .tier) (tierAt body h) used
+      ≡ onPeakOf terms (dayUpward terms body) (hubPrice body) (dayTier terms body) (tierAt body h) (hourPrice body h))
+      × (creditInCents (day .most .0) (day .tier) (tierAt body h) used
+      ≡ creditInCents (dayUpward terms body) (dayTier terms body) (tierAt body h) (hourPrice body h))
   unfolding priceIf
-  on-is h true e = rw (most-is, hub-is, tier-is)
+  on-is h true e = rw (most-is, hub-is, tier-is) (refl, refl)
   on-is h false e =
-      on-unneeded terms (day .most .0) (day .hub .0) (day .tier) (tierAt body h) (pos 0) (hourPrice body h) (sym e) ∙ rw (most-is, hub-is, tier-is)
+      let same = on-unneeded terms (day .most .0) (day .hub .0) (day .tier) (tierAt body h) (pos 0) (hourPrice body h) (sym e) in
+      (same .0 ∙ rw (most-is, hub-is, tier-is), same .1 ∙ rw (most-is, tier-is))
+
+  pub surcharge-is : surchargeInCents terms (day .most .0) (day .hub .0) (day .tier) ≡ surchargeInCents terms (dayUpward terms body) (hubPrice body) (dayTier terms body)
+  surcharge-is = rw (most-is, hub-is, tier-is)
 
 pub off-is : (terms : Terms) (body : List ℕ) (h : ℕ) (t : Bool) → t ≡ leb 2 (tierAt body h)
     → offPeakOf terms (upwardAt body h) (tierAt body h) (priceIf t body (intervalsAt body h))
@@ -63,28 +70,37 @@ off-is terms body h false e = off-unneeded terms (upwardAt body h) (tierAt body 
 
 -- ---- by flag and peak hour
 
-abbrev pub made : ℤ → ℤ → ℤ → Amounts
-made on off down = record { on = record { 0 = on }; off = record { 0 = off }; down = record { 0 = down } }
+abbrev pub made : (on off down surcharge credit : ℤ) → Amounts
+made on off down surcharge credit =
+    record {
+      on = record { 0 = on };
+      off = record { 0 = off };
+      down = record { 0 = down };
+      surcharge = record { 0 = surcharge };
+      credit = record { 0 = credit };
+    }
 
-pub same : {a a′ b b′ c c′ : ℤ} → a ≡ a′ → b ≡ b′ → c ≡ c′ → made a b c ≡ made a′ b′ c′
-same e f g = rw (e, f, g)
+pub same : {a a′ b b′ c c′ s s′ t t′ : ℤ} → a ≡ a′ → b ≡ b′ → c ≡ c′ → s ≡ s′ → t ≡ t′ → made a b c s t ≡ made a′ b′ c′ s′ t′
+same e f g i j = rw (e, f, g, i, j)
 
 module _ (terms : Terms) (body : List ℕ) (h : ℕ) where
-  pub without-flag : (flagOf body ≡ 1 → ⊥) → made (pos 0) (pos 0) (pos 0) ≡ amountsOf terms body h
-  unfolding amountsOf onPeakAtPrice offPeakAtPrice onPeakAmount offPeakAmount downwardAmount
+  pub without-flag : (flagOf body ≡ 1 → ⊥) → made (pos 0) (pos 0) (pos 0) (pos 0) (pos 0) ≡ amountsOf terms body h
+  unfolding amountsOf onPeakAtPrice offPeakAtPrice onPeakAmount offPeakAmount downwardAmount surchargeAt creditAtPrice creditAt
   without-flag e = rw (ne-eqb (flagOf body) 1 e)
 
   module _ (flag : flagOf body ≡ 1) where
     pub in-peak : peakHour terms h ≡ true
         → made (onPeakOf terms (dayUpward terms body) (hubPrice body) (dayTier terms body) (tierAt body h) (hourPrice body h)) (pos 0)
         (downwardOf terms (downwardFrom body (hourAt body h)) (mecAt body h))
+        (surchargeInCents terms (dayUpward terms body) (hubPrice body) (dayTier terms body))
+        (creditInCents (dayUpward terms body) (dayTier terms body) (tierAt body h) (hourPrice body h))
         ≡ amountsOf terms body h
-    unfolding amountsOf onPeakAtPrice offPeakAtPrice onPeakAmount offPeakAmount downwardAmount
+    unfolding amountsOf onPeakAtPrice offPeakAtPrice onPeakAmount offPeakAmount downwardAmount surchargeAt creditAtPrice creditAt
     in-peak e = rw (eq-eqb (flagOf body) 1 flag, e)
 
     pub outside-peak : peakHour terms h ≡ false
         → made (pos 0) (offPeakOf terms (upwardAt body h) (tierAt body h) (hourPrice body h))
-        (downwardOf terms (downwardFrom body (hourAt body h)) (mecAt body h))
+        (downwardOf terms (downwardFrom body (hourAt body h)) (mecAt body h)) (pos 0) (pos 0)
         ≡ amountsOf terms body h
-    unfolding amountsOf onPeakAtPrice offPeakAtPrice onPeakAmount offPeakAmount downwardAmount
+    unfolding amountsOf onPeakAtPrice offPeakAtPrice onPeakAmount offPeakAmount downwardAmount surchargeAt creditAtPrice creditAt
     outside-peak e = rw (eq-eqb (flagOf body) 1 flag, e)

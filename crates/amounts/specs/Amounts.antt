@@ -15,7 +15,7 @@ use Rattle.price.specs.declared.PriceAnswer.{PriceAnswer}
 use Rattle.price.specs.Price.{averagePrice, answerPrice, answerNumber, answerCount}
 use Rattle.surcharge.specs.declared.Terms.{Terms}
 use Rattle.surcharge.specs.declared.Day.{Day}
-use Rattle.surcharge.specs.Surcharge.{peakHour, tierOf, greaterPrice, onPeakOf, offPeakOf, downwardOf, needsPrice}
+use Rattle.surcharge.specs.Surcharge.{peakHour, tierOf, greaterPrice, onPeakOf, surchargeInCents, creditInCents, offPeakOf, downwardOf, needsPrice}
 use Rattle.amounts.specs.declared.Hour.{Hour}
 use Rattle.amounts.specs.declared.Amounts.{Amounts}
 
@@ -84,6 +84,16 @@ module _ (terms : Terms) (body : List ℕ) where
   unfoldable pub downwardAmount : ℕ → ℤ
   downwardAmount h = cond (eqb (flagOf body) 1) (downwardOf terms (downwardFrom body (hourAt body h)) (mecAt body h)) (pos 0)
 
+  -- S and the credit as an hour shows them; "both are 0 outside peak hours, .. and with flag 0"
+  unfoldable pub surchargeAt : ℕ → ℤ
+  surchargeAt h = cond (eqb (flagOf body) 1 && peakHour terms h) (surchargeInCents terms dayUpward (hubPrice body) dayTier) (pos 0)
+
+  unfoldable pub creditAtPrice : ℕ → ℤ → ℤ
+  creditAtPrice h price = cond (eqb (flagOf body) 1 && peakHour terms h) (creditInCents dayUpward dayTier (tierAt body h) price) (pos 0)
+
+  unfoldable pub creditAt : ℕ → ℤ
+  creditAt h = creditAtPrice h (hourPrice body h)
+
   -- A, "the hour's three amounts added"
   unfoldable pub amountAt : ℕ → ℤ
   amountAt h = onPeakAmount h +ℤ offPeakAmount h +ℤ downwardAmount h
@@ -129,4 +139,6 @@ amountsOf terms body h =
       on = record { 0 = onPeakAmount terms body h };
       off = record { 0 = offPeakAmount terms body h };
       down = record { 0 = downwardAmount terms body h };
+      surcharge = record { 0 = surchargeAt terms body h };
+      credit = record { 0 = creditAt terms body h };
     }

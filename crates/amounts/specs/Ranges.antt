@@ -40,3 +40,5 @@ pub record AmountsRanged (amounts : Amounts) : Type 0 where
   pub on : natAbs (amounts .on .0) ≤ mostAmount
   pub off : natAbs (amounts .off .0) ≤ mostAmount
   pub down : natAbs (amounts .down .0) ≤ mostAmount
+  pub surcharge : natAbs (amounts .surcharge .0) ≤ mostAmount
+  pub credit : natAbs (amounts .credit .0) ≤ mostAmount

@@ -1,4 +1,4 @@
-// The amounts of an area's hours, read from its body: the facts of its day, the three amounts of an hour, and what a needed price refuses.
+// The amounts of an area's hours, read from its body: the facts of its day, the amounts of an hour, and what a needed price refuses.
 use price::PriceAnswer;
 use surcharge::Day;
 use surcharge::Terms;
@@ -25,11 +25,13 @@ pub struct Hour {
     pub tier: u32,
 }
 
-// The three amounts of an hour.
+// The three amounts of an hour, and the S and the credit that it shows, which nobody is charged.
 pub struct Amounts {
     pub on: Cents,
     pub off: Cents,
     pub down: Cents,
+    pub surcharge: Cents,
+    pub credit: Cents,
 }
 
 // U of the hour that starts at word `at`.
@@ -153,7 +155,7 @@ fn down_amount(terms: Terms, body: &[u8], at: usize) -> Cents
     surcharge::downward(terms, downward_quantity(body, at), mec)
 }
 
-// The three amounts of hour h, which starts at word `at`. `day` has the facts of the area's day.
+// The amounts of hour h, which starts at word `at`. `day` has the facts of the area's day.
 pub fn hour_amounts(terms: Terms, day: Day, body: &[u8], h: usize, at: usize) -> Amounts
     requires { ⌜ AtHour terms day (now body) h at ⌝ }
     ensures { λ r. ⌜ r ≡ amountsOf terms (now (body .entry)) h ⌝ }
@@ -164,6 +166,8 @@ pub fn hour_amounts(terms: Terms, day: Day, body: &[u8], h: usize, at: usize) ->
             on: Cents(0),
             off: Cents(0),
             down: Cents(0),
+            surcharge: Cents(0),
+            credit: Cents(0),
         };
     }
     let down = down_amount(terms, body, at);
@@ -179,16 +183,24 @@ pub fn hour_amounts(terms: Terms, day: Day, body: &[u8], h: usize, at: usize) ->
         at + 8,
     );
     if in_peak {
+        let on_peak = surcharge::on_peak(terms, day, tier, price);
+        let on = on_peak.amount;
+        let surcharge = on_peak.surcharge;
+        let credit = on_peak.credit;
         return Amounts {
-            on: surcharge::on_peak(terms, day, tier, price),
+            on,
             off: Cents(0),
             down,
+            surcharge,
+            credit,
         };
     }
     Amounts {
         on: Cents(0),
         off: surcharge::off_peak(terms, upward, tier, price),
         down,
+        surcharge: Cents(0),
+        credit: Cents(0),
     }
 }
 

@@ -17,7 +17,7 @@ use Rattle.amounts.specs.Amounts.{amountAt, priceAnswerAt, priceNeeded, usableR
 use Rattle.statement.specs.Block.{chargesAt, hourBlock, hoursBlock, block}
 use Rattle.settlement.specs.Settlement.{chargeable, chargeRule, hourRefusal, hoursRefusal}
 use Rattle.theorems.proofs.Demands.{charges-same}
-use Rattle.comparisons.proofs.SameAmounts.{SameAmounts, amount-same, on-peak-same, off-peak-same, downward-same, price-rule-same}
+use Rattle.comparisons.proofs.SameAmounts.{SameAmounts, amounts-same, amount-same, price-rule-same}
 
 -- word by word: the head with its coordinator numbers, the eight numbers of each hour, its prices, its quantities where the price is there, its demands
 pub record Alike (body body′ : List ℕ) : Type 0 where
@@ -82,13 +82,7 @@ module _ (body body′ : List ℕ) (alike : Alike body body′) where
 
       hour-same : hourBlock terms body g ≡ hourBlock terms body′ g
       unfolding hourBlock
-      hour-same =
-          rw (
-            on-peak-same body body′ same terms g below,
-            off-peak-same body body′ same terms g below,
-            downward-same body body′ same terms g below,
-            charges,
-          )
+      hour-same = rw (amounts-same body body′ same terms g below, charges)
 
       chargeable-same : chargeable terms body g ≡ chargeable terms body′ g
       unfolding chargeable

@@ -1,13 +1,13 @@
 -- Demand 3, merged coordinators: neighbouring coordinators of the CISO area replaced by one are charged, in every hour, what they were charged together;
 -- everybody else's charge, every amount and every other area's block are the same.
 use Prim.Native.Nat.{ℕ, zero, suc, _≤_, _<_}
-use mathlib.Core.List.{List, _∷_}
+use mathlib.Core.List.{List, _++_}
 use mathlib.Core.Logic.{dite}
 use mathlib.Core.Path.{_≡_, sym, ap, ap₂, _∙_}
 use native.Mathlib.Decide.{ℕ-discrete}
 use native.Mathlib.Omega.{arith}
 use lib.IntN.{ℤ}
-use lib.ListN.{length}
+use lib.ListN.{length, take}
 use Rattle.words.specs.Bytes.{Below}
 use Rattle.limits.specs.Ranges.{dayHours}
 use Rattle.verdict.specs.Verdict.{numberOf}
@@ -15,11 +15,10 @@ use Rattle.body.specs.Layout.{kindOf, coordinatorsOf}
 use Rattle.contents.specs.File.{areasOf, numberAt, bodyAt}
 use Rattle.dayfile.specs.Check.{checkOf}
 use Rattle.shares.specs.Shares.{sum, mergedAt}
-use Rattle.amounts.specs.Amounts.{onPeakAmount, offPeakAmount, downwardAmount}
-use Rattle.statement.specs.Block.{block, hourBlock, chargesAt}
+use Rattle.statement.specs.Block.{amountsShown, block, hourBlock, amountsAt, chargesAt}
 use Rattle.settlement.specs.Settlement.{neededTo, daysBy, termsBy, ownDays, settleBy}
-use Rattle.settlement.specs.Shown.{statementLeftBy, hourShown, onPeakShown, offPeakShown, downwardShown, chargesShown}
-use Rattle.settlement.proofs.Shown.{hour-shown, on-peak-shown, off-peak-shown, downward-shown, charges-shown}
+use Rattle.settlement.specs.Shown.{statementLeftBy, hourShown, chargesShown}
+use Rattle.settlement.proofs.Shown.{hour-shown, charges-shown}
 use Rattle.comparisons.specs.Days.{ByNumberAndDays}
 use Rattle.comparisons.specs.Merge.{Mergeable, MergedFile, merge}
 use Rattle.comparisons.proofs.Days.{own-by}
@@ -68,7 +67,7 @@ module _ (d : ℕ → List ℕ → ℕ) (by : ByNumberAndDays d) (i n : ℕ) (fi
         → let terms = termsBy d file k in
         let body = bodyAt file k in
         hourBlock (termsBy d other k) (bodyAt other k) h
-        ≡ onPeakAmount terms body h ∷ offPeakAmount terms body h ∷ downwardAmount terms body h ∷ mergedAt sum i n (chargesAt terms body h)
+        ≡ amountsAt terms body h ++ mergedAt sum i n (chargesAt terms body h)
     ciso-merged e h q = rw terms-same (hour-merged i n (bodyAt file k) (bodyAt other k) (m .ciso k below e) (termsBy d file k) h q e)
 
     -- ---- the same, read off the two statements
@@ -86,12 +85,11 @@ module _ (d : ℕ → List ℕ → ℕ) (by : ByNumberAndDays d) (i n : ℕ) (fi
 
       ciso-shows : kindOf (bodyAt file k) ≡ 1
           → hourShown other k h (statementLeftBy d other after)
-          ≡ onPeakShown file k h was ∷ offPeakShown file k h was ∷ downwardShown file k h was ∷ mergedAt sum i n (chargesShown file k h was)
+          ≡ take amountsShown (hourShown file k h was) ++ mergedAt sum i n (chargesShown file k h was)
+      unfolding hourBlock
       ciso-shows e =
-          let on = on-peak-shown d file before z k h below hour in
-          let off = off-peak-shown d file before z k h below hour in
-          let down = downward-shown d file before z k h below hour in
-          rw (on, off, down, charges-shown d file before z k h below hour) (hour-shown d other after y k h there hour ∙ ciso-merged e h hour)
+          rw (hour-shown d file before z k h below hour, charges-shown d file before z k h below hour)
+          (hour-shown d other after y k h there hour ∙ ciso-merged e h hour)
 
   -- a file that is settled is settled with its neighbours merged
   settles-too : numberOf (checkOf other) ≡ 0 → (room : ℕ) → numberOf (settleBy d file room) ≡ 0 → numberOf (settleBy d other room) ≡ 0
@@ -123,7 +121,7 @@ MergedBlocks d =
     ((kindOf body ≡ 1 → ⊥) → block (termsBy d other k) (bodyAt other k) ≡ block terms body)
     × (kindOf body ≡ 1 → (h : ℕ) → h < dayHours
     → hourBlock (termsBy d other k) (bodyAt other k) h
-    ≡ onPeakAmount terms body h ∷ offPeakAmount terms body h ∷ downwardAmount terms body h ∷ mergedAt sum i n (chargesAt terms body h))
+    ≡ amountsAt terms body h ++ mergedAt sum i n (chargesAt terms body h))
 
 pub merged-blocks-by : (d : ℕ → List ℕ → ℕ) → ByNumberAndDays d → MergedBlocks d
 merged-blocks-by d by i n file other m k below = (rest-same d by i n file other m k below, ciso-merged d by i n file other m k below)
@@ -139,7 +137,7 @@ MergedShown d =
     ((kindOf (bodyAt file k) ≡ 1 → ⊥) → hourShown other k h is ≡ hourShown file k h was)
     × (kindOf (bodyAt file k) ≡ 1
     → hourShown other k h is
-    ≡ onPeakShown file k h was ∷ offPeakShown file k h was ∷ downwardShown file k h was ∷ mergedAt sum i n (chargesShown file k h was))
+    ≡ take amountsShown (hourShown file k h was) ++ mergedAt sum i n (chargesShown file k h was))
 
 pub merged-shown-by : (d : ℕ → List ℕ → ℕ) → ByNumberAndDays d → MergedShown d
 merged-shown-by d by i n file other m k below before after z y h hour =

@@ -1,6 +1,6 @@
 -- A body in which neighbours are one: the same amounts, the same hours settled, and the neighbours' charges added.
 use Prim.Native.Nat.{ℕ, _<_}
-use mathlib.Core.List.{List, _∷_}
+use mathlib.Core.List.{List, _++_}
 use mathlib.Core.Path.{_≡_, sym, ap, ap₂, _∙_}
 use native.Mathlib.Omega.{arith}
 use Rattle.exact.specs.Total.{total}
@@ -9,12 +9,12 @@ use Rattle.body.specs.Layout.{kindOf, daysOf, coordinatorsOf, demandsAt, demand
 use Rattle.shares.specs.Shares.{sum, shares, mergedAt}
 use Rattle.shares.proofs.Merged.{merged, total-merged}
 use Rattle.surcharge.specs.declared.Terms.{Terms}
-use Rattle.amounts.specs.Amounts.{onPeakAmount, offPeakAmount, downwardAmount, amountAt}
-use Rattle.statement.specs.Block.{chargesAt, hourBlock}
+use Rattle.amounts.specs.Amounts.{amountAt}
+use Rattle.statement.specs.Block.{amountsAt, chargesAt, hourBlock}
 use Rattle.statement.proofs.Charges.{charges-shared}
 use Rattle.settlement.specs.Settlement.{chargeable}
 use Rattle.comparisons.specs.Merge.{Merged}
-use Rattle.comparisons.proofs.SameAmounts.{SameAmounts, kind-same, amount-same, on-peak-same, off-peak-same, downward-same, priced-same}
+use Rattle.comparisons.proofs.SameAmounts.{SameAmounts, kind-same, amounts-same, amount-same, priced-same}
 use Rattle.comparisons.proofs.SameHours.{same-amounts}
 use Rattle.theorems.proofs.SettledExactly.{HourSettled}
 
@@ -44,14 +44,6 @@ module _ (i n : ℕ) (body other : List ℕ) (m : Merged i n body other) where
         ∙ merged amount i n (demandsOf body h)
         ∙ ap (mergedAt sum i n) (sym (charges-shared (kindOf body) amount body (demandsAt body h) (coordinatorsOf body) ciso))
 
-    pub hour-merged : kindOf body ≡ 1
-        → hourBlock terms other h
-        ≡ onPeakAmount terms body h ∷ offPeakAmount terms body h ∷ downwardAmount terms body h ∷ mergedAt sum i n (chargesAt terms body h)
+    pub hour-merged : kindOf body ≡ 1 → hourBlock terms other h ≡ amountsAt terms body h ++ mergedAt sum i n (chargesAt terms body h)
     unfolding hourBlock
-    hour-merged ciso =
-        rw (
-          on-peak-same body other same terms h below,
-          off-peak-same body other same terms h below,
-          downward-same body other same terms h below,
-          charges-merged ciso,
-        )
+    hour-merged ciso = rw (amounts-same body other same terms h below, charges-merged ciso)

@@ -21,7 +21,8 @@ use Rattle.surcharge.specs.declared.Terms.{Terms}
 use Rattle.amounts.proofs.Prices.{anywhere}
 use Rattle.surcharge.specs.Surcharge.{peakHour, greaterPrice}
 use Rattle.amounts.specs.Amounts.{highest, upwardFrom, downwardFrom, upwardAt, tierAt, dayTier, dayUpward, hubPrice, priceFrom, priceAnswerAt}
-use Rattle.amounts.specs.Amounts.{onPeakAtPrice, offPeakAtPrice, onPeakAmount, offPeakAmount, downwardAmount, amountAt, priceNeeded, usableRule, priceRule}
+use Rattle.amounts.specs.Amounts.{onPeakAtPrice, offPeakAtPrice, creditAtPrice, onPeakAmount, offPeakAmount, downwardAmount, surchargeAt, creditAt}
+use Rattle.amounts.specs.Amounts.{amountAt, amountsOf, priceNeeded, usableRule, priceRule}
 
 pub record SameAmounts (body other : List ℕ) : Type 0 where
   -- kind, EDAM flag, persistent days, hub prices, load points
@@ -110,17 +111,29 @@ module _ (body other : List ℕ) (same : SameAmounts body other) where
     day-upward-same = highest-same terms (upwardAt other) (upwardAt body) dayHours upward-same
 
     module _ (h : ℕ) (below : h < dayHours) where
-      pub on-peak-same : onPeakAmount terms other h ≡ onPeakAmount terms body h
+      on-peak-same : onPeakAmount terms other h ≡ onPeakAmount terms body h
       unfolding onPeakAtPrice onPeakAmount
       on-peak-same = rw (flag-same, day-upward-same, hub-same, day-tier-same, tier-same h below, price-same h below)
 
-      pub off-peak-same : offPeakAmount terms other h ≡ offPeakAmount terms body h
+      off-peak-same : offPeakAmount terms other h ≡ offPeakAmount terms body h
       unfolding offPeakAtPrice offPeakAmount
       off-peak-same = rw (flag-same, upward-same h below, tier-same h below, price-same h below)
 
-      pub downward-same : downwardAmount terms other h ≡ downwardAmount terms body h
+      downward-same : downwardAmount terms other h ≡ downwardAmount terms body h
       unfolding downwardAmount downwardFrom
       downward-same = rw (flag-same, same .number h 4 below (omega arith), same .number h 5 below (omega arith), same .number h 7 below (omega arith))
+
+      surcharge-same : surchargeAt terms other h ≡ surchargeAt terms body h
+      unfolding surchargeAt
+      surcharge-same = rw (flag-same, day-upward-same, hub-same, day-tier-same)
+
+      credit-same : creditAt terms other h ≡ creditAt terms body h
+      unfolding creditAtPrice creditAt
+      credit-same = rw (flag-same, day-upward-same, day-tier-same, tier-same h below, price-same h below)
+
+      pub amounts-same : amountsOf terms other h ≡ amountsOf terms body h
+      unfolding amountsOf
+      amounts-same = rw (on-peak-same, off-peak-same, downward-same, surcharge-same, credit-same)
 
       pub amount-same : amountAt terms other h ≡ amountAt terms body h
       unfolding amountAt

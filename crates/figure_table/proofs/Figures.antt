@@ -9,12 +9,13 @@ use Rattle.hour.specs.Check.{intervalRuleAt, intervalsRule}
 use Rattle.price.specs.Price.{withInterval, averageOf, answerOf, loadWeightedWithin, loadWeighted}
 use Rattle.price.specs.Intervals.{averageOver, firstIntervals}
 use Rattle.shares.specs.Shares.{sum, sharesFrom, shares}
-use Rattle.surcharge.specs.Surcharge.{surchargeOf, creditOf, onPeakOf, offPeakOf, downwardOf}
+use Rattle.surcharge.specs.Surcharge.{surchargeOf, creditOf, onPeakOf, surchargeInCents, creditInCents, offPeakOf, downwardOf}
 use Rattle.figure_table.specs.Figures.{Figures}
 
 pub figures : Figures
 unfolding roundDiv atLeastZero atMostZero wordAt signedOf _orElse_ scan withInterval averageOf answerOf intervalRuleAt intervalsRule loadWeightedWithin
-    loadWeighted averageOver firstIntervals total sum sharesFrom shares surchargeOf creditOf onPeakOf offPeakOf downwardOf
+    loadWeighted averageOver firstIntervals total sum sharesFrom shares surchargeOf creditOf onPeakOf surchargeInCents creditInCents offPeakOf
+    downwardOf
 figures =
     record {
       T1 = (refl, refl);
@@ -24,6 +25,7 @@ figures =
       T5 = (refl, refl);
       T6 = λ price. (refl, refl);
       T7 = (refl, refl, refl);
+      T6-T7-shown = (refl, (λ price. (refl, refl)), refl, refl, refl);
       T8 = λ terms. ((λ mec. refl), refl);
       T9 = λ terms. (refl, refl);
       T10 = refl;

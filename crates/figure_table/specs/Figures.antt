@@ -1,5 +1,5 @@
--- The figures T1 to T12 of document 01, "Figures to hold", as one table, the amount of its Case P, and the figure of document 02, §2. Each is over the very
--- definitions that the contracts cite.
+-- The figures T1 to T12 of document 01, "Figures to hold", as one table, the amount of its Case P, the figure of document 02, §2, and what T6 and T7 show by
+-- its §4. Each is over the very definitions that the contracts cite.
 -- Quantities are thousandths of a MW or MWh, hub prices and amounts cents, market prices (of an interval, of an hour, MEC) hundredths of a cent. The comment
 -- above a figure has the document's words, in MW, MWh, $ a MWh and $.
 use Prim.Native.Nat.{ℕ}
@@ -14,11 +14,17 @@ use Rattle.price.specs.Price.{emptyAverage, answerOf, loadWeighted}
 use Rattle.price.specs.Intervals.{averageOver, firstIntervals}
 use Rattle.shares.specs.Shares.{sum, shares, mergedAt}
 use Rattle.surcharge.specs.declared.Terms.{Terms}
-use Rattle.surcharge.specs.Surcharge.{tierOf, greaterPrice, onPeakOf, offPeakOf, downwardOf}
+use Rattle.surcharge.specs.Surcharge.{tierOf, greaterPrice, onPeakOf, surchargeInCents, creditInCents, offPeakOf, downwardOf}
 
--- "M 120, hubs 80.00 and 95.50, d 3, day tier 2": the on-peak amount of an hour, by its tier and price
+-- "M 120, hubs 80.00 and 95.50, d 3, day tier 2": the on-peak amount of an hour, by its tier and price, and the S and the credit that it shows
 abbrev pub onPeak : ℕ → ℤ → ℤ
 onPeak tier price = onPeakOf (record { peak = peakWord; days = 3 }) 120000 (greaterPrice (pos 8000) (pos 9550)) 2 tier price
+
+abbrev pub surcharge : ℤ
+surcharge = surchargeInCents (record { peak = peakWord; days = 3 }) 120000 (greaterPrice (pos 8000) (pos 9550)) 2
+
+abbrev pub credit : ℕ → ℤ → ℤ
+credit tier price = creditInCents 120000 2 tier price
 
 -- "U 40 MW, Q 60 and price 25": the off-peak amount of an hour, by d
 abbrev pub offPeak : ℕ → ℤ
@@ -54,6 +60,11 @@ pub record Figures : Type 0 where
   pub T6 : (price : ℤ) → (onPeak 2 price ≡ pos 1475475) × (onPeak 1 price ≡ pos 1475475)
   -- passed hour at 60: $7,554.75; at 130: 0; at -5: $15,354.75
   pub T7 : (onPeak 0 (pos 600000) ≡ pos 755475) × (onPeak 0 (pos 1300000) ≡ pos 0) × (onPeak 0 (negℤ (pos 50000)) ≡ pos 1535475)
+  -- "S shows 1,475,475 cents" in all of them; no credit in a failed hour, and in passed ones $7,200.00, $15,600.00, which is not cut to S, and -$600.00
+  pub T6-T7-shown : (surcharge ≡ pos 1475475) × ((price : ℤ) → (credit 2 price ≡ pos 0) × (credit 1 price ≡ pos 0))
+      × (credit 0 (pos 600000) ≡ pos 720000)
+      × (credit 0 (pos 1300000) ≡ pos 1560000)
+      × (credit 0 (negℤ (pos 50000)) ≡ negℤ (pos 60000))
   -- W 10.000: 0, at any MEC; 10.001 at MEC -100: -$1,000.10; d is not asked
   pub T8 : (terms : Terms) → ((mec : ℤ) → downwardOf terms 10000 mec ≡ pos 0) × (downwardOf terms 10001 (negℤ (pos 1000000)) ≡ negℤ (pos 100010))
   -- W 12.500 at -0.01: -$0.13; at +40: 0; d is not asked

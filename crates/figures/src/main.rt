@@ -130,7 +130,7 @@ fn show_hour(statement: &[i64], hour: u8) {
     show::numbers(&statement[from..from + HOUR_NUMBERS]);
 }
 
-// The number and place of the settled day, and the hour's on-peak, off-peak and downward amount and charge.
+// The number and place of the settled day, and the hour's on-peak, off-peak and downward amount, S, credit and charge.
 fn settled(label: &[u8], day: [u8; ROOM], hour: u8) {
     let mut statement = [0i64; AREA_NUMBERS];
     let answer = settlement::settle(&day[0..DAY_BYTES], &mut statement);

@@ -24,6 +24,7 @@ use Rattle.theorems.proofs.SettledOrUntouched.{SettledOrUntouched, settled-or-u
 use Rattle.theorems.proofs.HourRefusals.{SixteenExactly, sixteen-exactly-by, ElevenExactly, eleven-exactly-by, TwelveExactly, twelve-exactly-by}
 use Rattle.theorems.proofs.PricesSeen.{PricesSeen, prices-seen-by}
 use Rattle.theorems.proofs.AddsUp.{StatementsAddUp, statement-adds-up-by}
+use Rattle.theorems.proofs.SurchargeShown.{SurchargesShown, every-surcharge-shown-by}
 use Rattle.theorems.proofs.WithinACent.{ChargesWithinACent, every-charge-within-a-cent-by}
 use Rattle.theorems.proofs.Turned.{StatementsTurned, statement-turned-by}
 use Rattle.comparisons.specs.Days.{ByNumberAndDays}
@@ -85,6 +86,9 @@ module _ (r : Record) (date : ℕ) where
 
   pub recorded-adds-up : StatementsAddUp d
   recorded-adds-up = statement-adds-up-by d
+
+  pub recorded-surcharge-shown : SurchargesShown d
+  recorded-surcharge-shown = every-surcharge-shown-by d
 
   pub recorded-within-a-cent : ChargesWithinACent d
   recorded-within-a-cent = every-charge-within-a-cent-by d

@@ -44,7 +44,8 @@ hour-fits terms body h kept sound below =
     let r = amounts-ranged terms body h (amountsOf terms body h) refl sound below kept in
     let a = amount-small body sound h below terms kept in
     fit-cons _ _ (small _ (r .on)) (fit-cons _ _ (small _ (r .off)) (fit-cons _ _ (small _ (r .down))
-    (charges-fit (kindOf body) (amountAt terms body h) body (demandsAt body h) (coordinatorsOf body) a (demands-ranged body sound h below .sum))))
+    (fit-cons _ _ (small _ (r .surcharge)) (fit-cons _ _ (small _ (r .credit))
+    (charges-fit (kindOf body) (amountAt terms body h) body (demandsAt body h) (coordinatorsOf body) a (demands-ranged body sound h below .sum))))))
 
 module _ (terms : Terms) (body : List ℕ) (kept : TermsKept terms) (sound : Sound plainPoints body) where
   hours-fit : (n : ℕ) → n ≤ dayHours → AllFit (hoursBlock terms body n)

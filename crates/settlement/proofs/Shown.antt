@@ -1,6 +1,6 @@
 -- Where each hour of each area stands in a settled statement, and what is read there.
 use Prim.Native.Nat.{ℕ, zero, suc, _+_, _*_, _≤_, _<_}
-use mathlib.Core.List.{List, [], _∷_}
+use mathlib.Core.List.{List}
 use mathlib.Core.Logic.{⊎-elim}
 use mathlib.Core.Path.{_≡_, refl}
 use native.Mathlib.Nat.{eq-or-lt-of-le, le-of-suc-le-suc, le-refl, add-zero}
@@ -13,14 +13,15 @@ use Rattle.body.specs.Layout.{kindOf, coordinatorsOf, demandsAt}
 use Rattle.body.specs.Kept.{Sound}
 use Rattle.contents.specs.File.{areasOf, bodyAt}
 use Rattle.surcharge.specs.declared.Terms.{Terms}
-use Rattle.amounts.specs.Amounts.{onPeakAmount, offPeakAmount, downwardAmount, amountAt}
-use Rattle.statement.specs.Block.{amountsShown, hourNumbers, chargesAt, hourBlock, hoursBlock, block}
+use Rattle.amounts.specs.Amounts.{onPeakAmount, offPeakAmount, downwardAmount, surchargeAt, creditAt, amountAt, amountsOf}
+use Rattle.statement.specs.Block.{amountsShown, hourNumbers, amountsAt, chargesAt, hourBlock, hoursBlock, block}
 use Rattle.statement.proofs.Charges.{charges-length}
 use Rattle.statement.proofs.Demands.{demands-ranged}
 use Rattle.statement.proofs.Hours.{hours-length, hour-length}
 use Rattle.settlement.specs.SoundFile.{SoundFile}
 use Rattle.settlement.specs.Settlement.{neededTo, numbersNeeded, termsAt, statementTo, daysBy, settleBy}
-use Rattle.settlement.specs.Shown.{statementLeftBy, placeOfHour, hourShown, onPeakShown, offPeakShown, downwardShown, chargeShown, chargesShown}
+use Rattle.settlement.specs.Shown.{statementLeftBy, placeOfHour, hourShown, onPeakShown, offPeakShown, downwardShown, surchargeShown, creditShown}
+use Rattle.settlement.specs.Shown.{chargeShown, chargesShown}
 use Rattle.settlement.proofs.Accepted.{sound-file, settled}
 use Rattle.settlement.proofs.Areas.{statement-length}
 use Rattle.settlement.proofs.Room.{check-accepts}
@@ -70,7 +71,7 @@ module _ (d : ℕ → List ℕ → ℕ) (file : List ℕ) (statement : List ℤ)
       (hour-in-block terms body (sound .body k area) dayHours (le-refl _) h hour)
       (block-in-statement (daysBy d file) file sound (areasOf file) (le-refl _) k area)))
 
-  -- ---- what is read there: the three amounts
+  -- ---- what is read there: the amounts
 
   long : length (hourBlock terms body h) ≡ hourNumbers (coordinatorsOf body)
   long = hour-length terms body (sound .body k area) h hour
@@ -79,16 +80,24 @@ module _ (d : ℕ → List ℕ → ℕ) (file : List ℕ) (statement : List ℤ)
   hour-shown = taken _ _ _ hour-stands _ long
 
   pub on-peak-shown : onPeakShown file k h left ≡ onPeakAmount terms body h
-  unfolding hourBlock
+  unfolding hourBlock amountsOf
   on-peak-shown = rw (← add-zero (placeOfHour file k h)) (number _ _ _ hour-stands 0 (omega (arith, long)))
 
   pub off-peak-shown : offPeakShown file k h left ≡ offPeakAmount terms body h
-  unfolding hourBlock
+  unfolding hourBlock amountsOf
   off-peak-shown = number _ _ _ hour-stands 1 (omega (arith, long))
 
   pub downward-shown : downwardShown file k h left ≡ downwardAmount terms body h
-  unfolding hourBlock
+  unfolding hourBlock amountsOf
   downward-shown = number _ _ _ hour-stands 2 (omega (arith, long))
+
+  pub surcharge-shown : surchargeShown file k h left ≡ surchargeAt terms body h
+  unfolding hourBlock amountsOf
+  surcharge-shown = number _ _ _ hour-stands 3 (omega (arith, long))
+
+  pub credit-shown : creditShown file k h left ≡ creditAt terms body h
+  unfolding hourBlock amountsOf
+  credit-shown = number _ _ _ hour-stands 4 (omega (arith, long))
 
   -- ---- and the charges behind them
 
@@ -96,7 +105,7 @@ module _ (d : ℕ → List ℕ → ℕ) (file : List ℕ) (statement : List ℤ)
   unfolding hourBlock
   charges-stand =
       within _ _ _ amountsShown _
-      (last (onPeakAmount terms body h ∷ offPeakAmount terms body h ∷ downwardAmount terms body h ∷ []) _ amountsShown refl)
+      (last (amountsAt terms body h) _ amountsShown refl)
       hour-stands
 
   charges-many : length (chargesAt terms body h) ≡ coordinatorsOf body

@@ -34,7 +34,7 @@ module _ (file : List ℕ) where
   neededTo zero = 0
   neededTo (suc k) = neededTo k + areaNumbers (coordinatorsOf (bodyAt file k))
 
-  -- "Numbers needed: the sum of 24(3 + K)"
+  -- the sum of 24(5 + K)
   abbrev pub numbersNeeded : ℕ
   numbersNeeded = neededTo (areasOf file)
 

@@ -1,5 +1,5 @@
--- What a statement shows, read off its numbers by their positions: areas in file order, each 24 hours of on-peak amount, off-peak amount, downward amount
--- and K charges.
+-- What a statement shows, read off its numbers by their positions: areas in file order, each 24 hours of on-peak amount, off-peak amount, downward amount, S,
+-- the credit and K charges.
 use Prim.Native.Nat.{ℕ, _+_, _*_}
 use mathlib.Core.List.{List}
 use lib.IntN.{ℤ, pos}
@@ -35,6 +35,12 @@ module _ (file : List ℕ) (k h : ℕ) where
 
     abbrev pub downwardShown : ℤ
     downwardShown = getD statement (placeOfHour + 2) (pos 0)
+
+    abbrev pub surchargeShown : ℤ
+    surchargeShown = getD statement (placeOfHour + 3) (pos 0)
+
+    abbrev pub creditShown : ℤ
+    creditShown = getD statement (placeOfHour + 4) (pos 0)
 
     -- the charge of coordinator i, from 0
     abbrev pub chargeShown : ℕ → ℤ

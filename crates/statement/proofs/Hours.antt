@@ -11,18 +11,10 @@ use Rattle.limits.specs.Ranges.{dayHours, plainPoints}
 use Rattle.body.specs.Layout.{kindOf, coordinatorsOf, demandsAt}
 use Rattle.body.specs.Kept.{Sound}
 use Rattle.surcharge.specs.declared.Terms.{Terms}
-use Rattle.amounts.specs.Amounts.{onPeakAmount, offPeakAmount, downwardAmount, amountAt}
-use Rattle.statement.specs.Block.{hourNumbers, chargesAt, hourBlock, hoursBlock}
+use Rattle.amounts.specs.Amounts.{amountAt}
+use Rattle.statement.specs.Block.{hourNumbers, hourBlock, hoursBlock}
 use Rattle.statement.proofs.Charges.{charges-length}
 use Rattle.statement.proofs.Demands.{demands-ranged}
-
--- the amounts of an hour, and behind them its charges
-abbrev pub amountsAt : Terms → List ℕ → ℕ → List ℤ
-amountsAt terms body h = onPeakAmount terms body h ∷ offPeakAmount terms body h ∷ downwardAmount terms body h ∷ []
-
-pub hour-is : (terms : Terms) (body : List ℕ) (h : ℕ) → hourBlock terms body h ≡ amountsAt terms body h ++ chargesAt terms body h
-unfolding hourBlock
-hour-is terms body h = refl
 
 module _ (terms : Terms) (body : List ℕ) (sound : Sound plainPoints body) where
   module _ (h : ℕ) (below : h < dayHours) where

@@ -1,4 +1,5 @@
--- The statement of one area (docs/RULES.md, section 9): 24 hours of on-peak amount, off-peak amount, downward amount, and a charge for each coordinator.
+-- The statement of one area (docs/RULES.md, section 9): 24 hours of on-peak amount, off-peak amount, downward amount, S, the credit, and a charge for each
+-- coordinator.
 -- A function of the terms that its day is settled under and its body alone.
 use Prim.Native.Nat.{ℕ, zero, suc, _+_, _*_}
 use mathlib.Core.Bool.{cond}
@@ -10,16 +11,21 @@ use Rattle.limits.specs.Ranges.{dayHours}
 use Rattle.body.specs.Layout.{kindOf, coordinatorsOf, demandsAt}
 use Rattle.shares.specs.Shares.{shares}
 use Rattle.surcharge.specs.declared.Terms.{Terms}
-use Rattle.amounts.specs.Amounts.{onPeakAmount, offPeakAmount, downwardAmount, amountAt}
+use Rattle.amounts.specs.declared.Amounts.{Amounts}
+use Rattle.amounts.specs.Amounts.{amountAt, amountsOf}
 
 -- how many numbers an hour has before its charges
 abbrev pub amountsShown : ℕ
-amountsShown = 3
+amountsShown = 5
+
+-- their order: the three amounts; "After the downward amount each hour gets S and the credit"
+abbrev pub shownOf : Amounts → List ℤ
+shownOf amounts = amounts .on .0 ∷ amounts .off .0 ∷ amounts .down .0 ∷ amounts .surcharge .0 ∷ amounts .credit .0 ∷ []
 
 abbrev pub hourNumbers : ℕ → ℕ
 hourNumbers coordinators = amountsShown + coordinators
 
--- "24(3 + K)"
+-- 24(5 + K)
 abbrev pub areaNumbers : ℕ → ℕ
 areaNumbers coordinators = dayHours * hourNumbers coordinators
 
@@ -31,8 +37,11 @@ module _ (terms : Terms) (body : List ℕ) where
   abbrev pub chargesAt : ℕ → List ℤ
   chargesAt h = chargesFrom (kindOf body) (amountAt terms body h) body (demandsAt body h) (coordinatorsOf body)
 
+  abbrev pub amountsAt : ℕ → List ℤ
+  amountsAt h = shownOf (amountsOf terms body h)
+
   unfoldable pub hourBlock : ℕ → List ℤ
-  hourBlock h = onPeakAmount terms body h ∷ offPeakAmount terms body h ∷ downwardAmount terms body h ∷ chargesAt h
+  hourBlock h = amountsAt h ++ chargesAt h
 
   -- the first n hours
   unfoldable pub hoursBlock : ℕ → List ℤ

@@ -1,4 +1,5 @@
-// Writes the statement of one area into lent bytes, eight a number: its hours, each its three amounts and its charges.
+// Writes the statement of one area into lent bytes, eight a number: its hours, each its amounts and its charges.
+use amounts::Amounts;
 use surcharge::Day;
 use surcharge::Terms;
 ghost use mathlib.Core.Path.{_≡_};
@@ -13,12 +14,12 @@ ghost use Rattle.encoding.specs.Encoding.{encoded};
 ghost use Rattle.body.specs.Layout.{kindOf, pointsOf, coordinatorsOf};
 ghost use Rattle.body.specs.Kept.{Sound};
 ghost use Rattle.surcharge.specs.Ranges.{TermsKept};
-ghost use Rattle.amounts.specs.Ranges.{AtHour};
+ghost use Rattle.amounts.specs.Ranges.{AtHour, AmountsRanged};
 ghost use Rattle.statement.specs.Ranges.{DemandsRanged};
-ghost use Rattle.statement.specs.Block.{chargesFrom, hourBlock, block, amountsShown, hourNumbers, areaNumbers};
+ghost use Rattle.statement.specs.Block.{chargesFrom, shownOf, hourBlock, block, amountsShown, hourNumbers, areaNumbers};
 
 // How many numbers an hour has before its charges.
-pub const AMOUNTS_SHOWN: usize = 3;
+pub const AMOUNTS_SHOWN: usize = 5;
 
 // How many numbers an hour has, with so many coordinators.
 pub fn hour_numbers(count: usize) -> usize
@@ -51,11 +52,16 @@ fn write_charges(kind: u32, amount: i64, body: &[u8], from: usize, count: usize,
 }
 
 // The amounts of an hour at the front of a block.
-fn put_amounts(block: &mut [u8], on: i64, off: i64, down: i64)
-    requires { ⌜ 8 * amountsShown ≤ length (now block) ⌝ }
-    ensures { λ _. ⌜ now (block .exit) ≡ encoded (on ∷ off ∷ down ∷ []) ++ drop (8 * amountsShown) (now (block .entry)) ⌝ }
+fn put_amounts(amounts: Amounts, block: &mut [u8])
+    requires { ⌜ (AmountsRanged amounts) × (8 * amountsShown ≤ length (now block)) ⌝ }
+    ensures { λ _. ⌜ now (block .exit) ≡ encoded (shownOf amounts) ++ drop (8 * amountsShown) (now (block .entry)) ⌝ }
 {
-    let shown = [on, off, down];
+    let on = amounts.on;
+    let off = amounts.off;
+    let down = amounts.down;
+    let surcharge = amounts.surcharge;
+    let credit = amounts.credit;
+    let shown = [on.0, off.0, down.0, surcharge.0, credit.0];
     encoding::put_numbers(&shown, block);
 }
 
@@ -80,10 +86,7 @@ fn write_hour(terms: Terms, day: Day, body: &[u8], h: usize, at: usize, block: &
         ++ drop (8 * hourNumbers (coordinatorsOf (now (body .entry)))) (now (block .entry)) ⌝ }
 {
     let amounts = amounts::hour_amounts(terms, day, body, h, at);
-    let on = amounts.on;
-    let off = amounts.off;
-    let down = amounts.down;
-    put_amounts(block, on.0, off.0, down.0);
+    put_amounts(amounts, block);
     let amount = amounts::amount_of(amounts);
     hour_charges(amount.0, body, at, &mut block[8 * AMOUNTS_SHOWN..]);
 }

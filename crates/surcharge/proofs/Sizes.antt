@@ -13,6 +13,7 @@ use Rattle.limits.specs.Ranges.{mostMarketPrice, mostHubPrice, mostDays, mostUp
 use Rattle.surcharge.specs.declared.Terms.{Terms}
 use Rattle.surcharge.specs.Ranges.{TermsKept}
 use Rattle.surcharge.specs.Surcharge.{downwardFloor, quarters, scaledMultiplier, surchargeOf, creditOf, onPeakOf, offPeakOf, downwardOf}
+use Rattle.surcharge.specs.Surcharge.{surchargeInCents, creditInCents}
 
 -- m × (1 + d/100) at most, in four-hundredths
 abbrev mostMultiplier : ℕ
@@ -93,6 +94,17 @@ module _ (terms : Terms) (kept : TermsKept terms) (most : ℕ) (most-small : mos
       let z = surchargeOf terms most hub dayTier -ℤ creditOf most tier price in
       pick mostOnPeakAmount (leb dayTier 1) _ _ zero-le
       (round-within mostOnPeakAmount (atLeastZero z) 400000 (omega arith) (omega (arith, abs-at-least z, difference-small hub dayTier tier price h p)))
+
+  -- S and the credit, in cents
+  pub surcharge-in-cents-small : (hub : ℤ) (dayTier : ℕ) → natAbs hub ≤ mostHubPrice → natAbs (surchargeInCents terms most hub dayTier) ≤ mostOnPeakAmount
+  unfolding surchargeInCents
+  surcharge-in-cents-small hub dayTier h =
+      pick mostOnPeakAmount (leb dayTier 1) _ _ zero-le (round-within mostOnPeakAmount _ 400000 (omega arith) (omega (arith, surcharge-small hub dayTier h)))
+
+  pub credit-in-cents-small : (dayTier tier : ℕ) (price : ℤ) → natAbs price ≤ mostMarketPrice → natAbs (creditInCents most dayTier tier price) ≤ mostOnPeakAmount
+  unfolding creditInCents
+  credit-in-cents-small dayTier tier price p =
+      pick mostOnPeakAmount (leb dayTier 1) _ _ zero-le (round-within mostOnPeakAmount _ 400000 (omega arith) (omega (arith, credit-small tier price p)))
 
 pub downward-small : (terms : Terms) (downward : ℕ) (mec : ℤ) → downward ≤ mostDownward → natAbs mec ≤ mostMarketPrice
     → natAbs (downwardOf terms downward mec) ≤ mostDownwardAmount

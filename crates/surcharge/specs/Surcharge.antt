@@ -57,6 +57,13 @@ unfoldable pub onPeakOf : (terms : Terms) (most : ℕ) (hub : ℤ) (dayTier tier
 onPeakOf terms most hub dayTier tier price =
     cond (leb dayTier 1) (pos 0) (roundDiv (atLeastZero (surchargeOf terms most hub dayTier -ℤ creditOf most tier price)) 400000)
 
+-- "S and the credit, each rounded by R on its own; both are 0 .. on a day of tier 0 or 1"; the credit is not cut to S
+unfoldable pub surchargeInCents : (terms : Terms) (most : ℕ) (hub : ℤ) (dayTier : ℕ) → ℤ
+surchargeInCents terms most hub dayTier = cond (leb dayTier 1) (pos 0) (roundDiv (surchargeOf terms most hub dayTier) 400000)
+
+unfoldable pub creditInCents : (most dayTier tier : ℕ) (price : ℤ) → ℤ
+creditInCents most dayTier tier price = cond (leb dayTier 1) (pos 0) (roundDiv (creditOf most tier price) 400000)
+
 -- "tier 0 and 1 give 0"; otherwise "R(max(0, U × price × m × (1 + d/100))), rounded once", "with the hour's own tier"
 unfoldable pub offPeakOf : (terms : Terms) (upward tier : ℕ) (price : ℤ) → ℤ
 offPeakOf terms upward tier price = cond (leb tier 1) (pos 0) (roundDiv (atLeastZero ((pos upward *ℤ price) *ℤ pos (scaledMultiplier terms tier))) 40000000)

@@ -9,7 +9,7 @@ ghost use Prim.Native.Nat.{_≤_};
 ghost use lib.IntN.{natAbs};
 ghost use Rattle.limits.specs.Ranges.{mostMarketPrice, mostUpward};
 ghost use Rattle.surcharge.specs.Surcharge.{tierOf, peakHour, quarters, scaledMultiplier, surchargeOf, creditOf, onPeakOf, offPeakOf, downwardOf};
-ghost use Rattle.surcharge.specs.Surcharge.{greaterPrice, needsPrice};
+ghost use Rattle.surcharge.specs.Surcharge.{surchargeInCents, creditInCents, greaterPrice, needsPrice};
 ghost use Rattle.surcharge.specs.Ranges.{TermsKept, DayRanged};
 
 // Up to 10 MW a shortage is of tier 1.
@@ -29,6 +29,13 @@ pub struct Day {
     pub tier: u32,
     pub most: Quantity,
     pub hub: HubPrice,
+}
+
+// What a peak hour comes to, and the S and the credit that it comes from: each rounded once, from what is exact.
+pub struct OnPeak {
+    pub amount: Cents,
+    pub surcharge: Cents,
+    pub credit: Cents,
 }
 
 // The tier of an hour; nothing is rounded.
@@ -146,18 +153,27 @@ fn credit(most: Quantity, tier: u32, price: MarketPrice) -> CentsOver400000
     CentsOver400000(0)
 }
 
-pub fn on_peak(terms: Terms, day: Day, tier: u32, price: MarketPrice) -> Cents
+pub fn on_peak(terms: Terms, day: Day, tier: u32, price: MarketPrice) -> OnPeak
     requires { ⌜ (TermsKept terms) × (DayRanged day) ⌝ }
     requires { ⌜ natAbs (price .0) ≤ mostMarketPrice ⌝ }
-    ensures { λ r. ⌜ r .0 ≡ onPeakOf terms (day .most .0) (day .hub .0) (day .tier) tier (price .0) ⌝ }
+    ensures { λ r. ⌜ (r .amount .0 ≡ onPeakOf terms (day .most .0) (day .hub .0) (day .tier) tier (price .0))
+        × (r .surcharge .0 ≡ surchargeInCents terms (day .most .0) (day .hub .0) (day .tier))
+        × (r .credit .0 ≡ creditInCents (day .most .0) (day .tier) tier (price .0)) ⌝ }
 {
     if day.tier <= 1 {
-        return Cents(0);
+        return OnPeak {
+            amount: Cents(0),
+            surcharge: Cents(0),
+            credit: Cents(0),
+        };
     }
-    surcharge(terms, day)
-        .minus(credit(day.most, tier, price))
-        .at_least_zero()
-        .rounded()
+    let surcharge = surcharge(terms, day);
+    let credit = credit(day.most, tier, price);
+    OnPeak {
+        amount: surcharge.minus(credit).at_least_zero().rounded(),
+        surcharge: surcharge.rounded(),
+        credit: credit.rounded(),
+    }
 }
 
 pub fn greater_price(a: HubPrice, b: HubPrice) -> HubPrice

@@ -1,5 +1,5 @@
--- Demand 2: for every file that is settled, each number of the statement is the on-peak, off-peak or downward amount or the charge that belongs there, and
--- behind the numbers needed stands what stood there.
+-- Demand 2: for every file that is settled, each number of the statement is the on-peak, off-peak or downward amount, the S, the credit or the charge that
+-- belongs there, and behind the numbers needed stands what stood there.
 use Prim.Native.Nat.{ℕ, _+_, _-_, _≤_}
 use mathlib.Core.List.{List, _++_}
 use mathlib.Core.Path.{_≡_, sym, ap, _∙_}
@@ -15,7 +15,7 @@ use Rattle.settlement.specs.Shown.{statementLeftBy}
 use Rattle.settlement.proofs.Accepted.{sound-file, settled}
 use Rattle.settlement.proofs.Areas.{statement-length}
 use Rattle.settlement.proofs.Room.{check-accepts, room-enough}
-use Rattle.settlement.proofs.Shown.{on-peak-shown, off-peak-shown, downward-shown, charge-shown}
+use Rattle.settlement.proofs.Shown.{on-peak-shown, off-peak-shown, downward-shown, surcharge-shown, credit-shown, charge-shown}
 use Rattle.theorems.specs.EveryNumber.{EveryNumber}
 
 module _ (d : ℕ → List ℕ → ℕ) (file : List ℕ) (statement : List ℤ) (z : numberOf (settleBy d file (length statement)) ≡ 0) where
@@ -56,6 +56,8 @@ module _ (d : ℕ → List ℕ → ℕ) (file : List ℕ) (statement : List ℤ)
               on-peak = on-peak-shown d file statement z k h p q;
               off-peak = off-peak-shown d file statement z k h p q;
               downward = downward-shown d file statement z k h p q;
+              surcharge = surcharge-shown d file statement z k h p q;
+              credit = credit-shown d file statement z k h p q;
               charge = charge-shown d file statement z k h p q;
             };
         behind = behind;

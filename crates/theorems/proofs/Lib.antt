@@ -9,3 +9,4 @@ pub mod AddsUp
 pub mod Demands
 pub mod WithinACent
 pub mod Turned
+pub mod SurchargeShown

@@ -1,4 +1,4 @@
--- In every settled file, each hour's amount that rests on a price rests on one with at least 9L of its 12L intervals present.
+-- In every settled file, each hour's amount or credit that rests on a price rests on one with at least 9L of its 12L intervals present.
 use Prim.Native.Nat.{ℕ, _+_, _*_, _≤_, _<_}
 use mathlib.Core.Bool.{Bool, true, false, cond, _&&_}
 use mathlib.Core.List.{List}
@@ -20,7 +20,7 @@ use Rattle.surcharge.specs.declared.Terms.{Terms}
 use Rattle.surcharge.specs.Surcharge.{peakHour}
 use Rattle.surcharge.proofs.Unneeded.{on-unneeded, off-unneeded}
 use Rattle.amounts.specs.Amounts.{tierAt, dayTier, priceFrom, priceAnswerAt, priceNeeded, usableRule, priceRule}
-use Rattle.amounts.specs.Amounts.{onPeakAtPrice, offPeakAtPrice, onPeakAmount, offPeakAmount}
+use Rattle.amounts.specs.Amounts.{onPeakAtPrice, offPeakAtPrice, creditAtPrice, onPeakAmount, offPeakAmount, creditAt}
 use Rattle.settlement.specs.Settlement.{termsBy, ownDays, settleBy}
 use Rattle.theorems.specs.Seen.{presentAt, PriceSeen}
 use Rattle.theorems.proofs.SettledExactly.{settled-says}
@@ -41,15 +41,17 @@ module _ (terms : Terms) (body : List ℕ) (h : ℕ) where
 
   else-none : priceNeeded terms body h ≡ false → (price : ℤ)
       → (onPeakAtPrice terms body h price ≡ onPeakAmount terms body h) × (offPeakAtPrice terms body h price ≡ offPeakAmount terms body h)
-  unfolding priceNeeded onPeakAtPrice offPeakAtPrice onPeakAmount offPeakAmount
+      × (creditAtPrice terms body h price ≡ creditAt terms body h)
+  unfolding priceNeeded onPeakAtPrice offPeakAtPrice creditAtPrice onPeakAmount offPeakAmount creditAt
   else-none none price = by (eqb (flagOf body) 1) (peakHour terms h) refl refl none
     where
       by : (flag peak : Bool) → eqb (flagOf body) 1 ≡ flag → peakHour terms h ≡ peak
           → (flag && cond peak (leb 2 (dayTier terms body) && eqb (tierAt body h) 0) (leb 2 (tierAt body h))) ≡ false
           → (onPeakAtPrice terms body h price ≡ onPeakAmount terms body h) × (offPeakAtPrice terms body h price ≡ offPeakAmount terms body h)
-      by true true e f q = rw (e, f) (on-unneeded terms _ _ (dayTier terms body) (tierAt body h) _ _ q, refl)
-      by true false e f q = rw (e, f) (refl, off-unneeded terms _ (tierAt body h) _ _ q)
-      by false peak e f q = rw e (refl, refl)
+          × (creditAtPrice terms body h price ≡ creditAt terms body h)
+      by true true e f q = let same = on-unneeded terms _ _ (dayTier terms body) (tierAt body h) _ _ q in rw (e, f) (same .0, refl, same .1)
+      by true false e f q = rw (e, f) (refl, off-unneeded terms _ (tierAt body h) _ _ q, refl)
+      by false peak e f q = rw e (refl, refl, refl)
 
 abbrev pub PricesSeen : (ℕ → List ℕ → ℕ) → Type 0
 PricesSeen d =

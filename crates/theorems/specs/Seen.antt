@@ -9,7 +9,7 @@ use Rattle.limits.specs.Ranges.{leastPresent}
 use Rattle.body.specs.Layout.{pointsOf, intervalsAt}
 use Rattle.price.specs.Intervals.{present, firstIntervals}
 use Rattle.surcharge.specs.declared.Terms.{Terms}
-use Rattle.amounts.specs.Amounts.{pairsFrom, onPeakAtPrice, offPeakAtPrice, onPeakAmount, offPeakAmount, priceNeeded}
+use Rattle.amounts.specs.Amounts.{pairsFrom, onPeakAtPrice, offPeakAtPrice, creditAtPrice, onPeakAmount, offPeakAmount, creditAt, priceNeeded}
 
 -- those of hour h's 12L intervals whose price is present
 abbrev pub presentAt : List ℕ → ℕ → List (ℕ × ℕ)
@@ -18,6 +18,7 @@ presentAt body h = present (firstIntervals (pairsFrom body (intervalsAt body h))
 pub record PriceSeen (terms : Terms) (body : List ℕ) (h : ℕ) : Type 0 where
   -- a needed price rests on at least 9L of its 12L
   pub enough : priceNeeded terms body h ≡ true → leastPresent * pointsOf body ≤ length (presentAt body h)
-  -- and where none is needed the amounts rest on none: they are the same at every price
+  -- and where none is needed the amounts and the credit rest on none: they are the same at every price
   pub else-none : priceNeeded terms body h ≡ false → (price : ℤ)
       → (onPeakAtPrice terms body h price ≡ onPeakAmount terms body h) × (offPeakAtPrice terms body h price ≡ offPeakAmount terms body h)
+      × (creditAtPrice terms body h price ≡ creditAt terms body h)

@@ -8,12 +8,12 @@ use lib.IntN.{natAbs}
 use Rattle.words.specs.Word.{wordAt, signedOf}
 use Rattle.limits.specs.Ranges.{mostMarketPrice}
 use Rattle.body.specs.Layout.{flagOf, hourAt, intervalsAt, mecAt, pointsOf}
-use Rattle.surcharge.specs.Surcharge.{peakHour, onPeakOf, offPeakOf, downwardOf, needsPrice}
+use Rattle.surcharge.specs.Surcharge.{peakHour, onPeakOf, creditInCents, offPeakOf, downwardOf, needsPrice}
 use Rattle.amounts.specs.Amounts.{downwardFrom, upwardAt, tierAt, hourFacts, priceIf}
 use Rattle.amounts.specs.Ranges.{HourRanged, PairsRanged}
 use Rattle.amounts.proofs.Hours.{hour-upward, hour-tier, hour-ranged, pairs-ranged}
 use Rattle.amounts.proofs.Quantities.{upward-small}
-use Rattle.amounts.proofs.HourAmounts.{price-if-small, day-ranged, on-is, off-is, same, without-flag, in-peak, outside-peak}
+use Rattle.amounts.proofs.HourAmounts.{price-if-small, day-ranged, on-is, surcharge-is, off-is, same, without-flag, in-peak, outside-peak}
 use Rattle.amounts.proofs.hour_amounts.Statement.{statement}
 use Rattle.amounts.proofs.hour_amounts.Tie as tie
 
@@ -107,18 +107,22 @@ on-peak-requires c κs =
 
 returns-2 : tie.Need-returns-2
 returns-2 c =
-    let p = c .before .before in
+    let o = c .before .before .before in
+    let p = o .before .before in
     let a = to-start p .args in
     let d = a .day in
     let b = now (a .body) in
     let f = to-facts p in
-    let peak : peakHour (a .terms) (a .h) ≡ true = sym (p .before .before .before .peak-hour .ensures) ∙ c .before .if2 .taken in
+    let peak : peakHour (a .terms) (a .h) ≡ true = sym (p .before .before .before .peak-hour .ensures) ∙ o .before .if2 .taken in
+    let e = o .on-peak .ensures in
+    let is = to-start p .pre .facts in
+    let at-price = on-is (a .terms) d b is (a .h) _ (asked p ∙ ap (λ t. needsPrice 1 t (d .tier) (tierAt b (a .h))) (o .before .if2 .taken)) in
     same
-    (c .on-peak .ensures
-    ∙ ap₂ (onPeakOf (a .terms) (d .most .0) (d .hub .0) (d .tier)) (tier-is f) (price-is p)
-    ∙ on-is (a .terms) d b (to-start p .pre .facts) (a .h) _ (asked p ∙ ap (λ t. needsPrice 1 t (d .tier) (tierAt b (a .h))) (c .before .if2 .taken)))
+    (e .0 ∙ ap₂ (onPeakOf (a .terms) (d .most .0) (d .hub .0) (d .tier)) (tier-is f) (price-is p) ∙ at-price .0)
     refl
     (down-is (f .before))
+    (e .1 ∙ surcharge-is (a .terms) d b is)
+    (e .2 ∙ ap₂ (creditInCents (d .most .0) (d .tier)) (tier-is f) (price-is p) ∙ at-price .1)
     ∙ in-peak (a .terms) b (a .h) (flag-is (f .before .before)) peak
 
 off-peak-requires : tie.Need-off-peak-requires
@@ -141,6 +145,8 @@ returns-3 c =
     ∙ ap₂ (offPeakOf (a .terms) (upwardAt b (a .h))) (tier-is f) (price-is p)
     ∙ off-is (a .terms) b (a .h) _ (asked p ∙ ap (λ t. needsPrice 1 t (a .day .tier) (tierAt b (a .h))) (c .before .if2 .left)))
     (down-is (f .before))
+    refl
+    refl
     ∙ outside-peak (a .terms) b (a .h) (flag-is (f .before .before)) other
 
 pub hour-amounts-spec : {M : Type 1} → statement M

@@ -1,8 +1,8 @@
 use borrow.Author.Needs.{needs}
 use denote.Ref.{now}
 use Prim.Native.Nat.{ℕ, _+_, _*_, _≤_}
-use mathlib.Core.List.{List, [], _∷_, _++_}
-use mathlib.Core.Path.{_≡_, ap, _∙_}
+use mathlib.Core.List.{List, _++_}
+use mathlib.Core.Path.{_≡_, refl, ap, _∙_}
 use native.Mathlib.Omega.{arith}
 use lib.IntN.{ℤ, natAbs}
 use lib.ListN.{drop, length-take, length-drop}
@@ -16,11 +16,10 @@ use Rattle.encoding.proofs.Encoding.{bytes-more, encoded-length}
 use Rattle.body.specs.Layout.{kindOf, pointsOf, coordinatorsOf}
 use Rattle.amounts.specs.Amounts.{amountAt}
 use Rattle.amounts.specs.Ranges.{AmountsRanged}
-use Rattle.amounts.proofs.AmountSizes.{amount-small, on-is, off-is, down-is, amount-is, amounts-ranged}
-use Rattle.statement.specs.Block.{amountsShown, hourNumbers, chargesFrom, chargesAt}
+use Rattle.amounts.proofs.AmountSizes.{amount-small, amount-is, amounts-ranged}
+use Rattle.statement.specs.Block.{amountsShown, hourNumbers, chargesFrom, shownOf, amountsAt, chargesAt, hourBlock}
 use Rattle.statement.specs.Ranges.{DemandsRanged}
 use Rattle.statement.proofs.Demands.{demands-ranged}
-use Rattle.statement.proofs.Hours.{amountsAt, hour-is}
 use Rattle.statement.proofs.write_hour.Statement.{statement}
 use Rattle.statement.proofs.write_hour.Tie as tie
 
@@ -43,26 +42,17 @@ demands s = let k = s .pre .0 in rw (k .here) (demands-ranged (now (s .args .bod
 
 -- back from the amounts that were put to the amounts of the hour, and from A to those that were put
 abbrev to-amounts : tie.After-put-amounts → tie.After-hour-amounts
-to-amounts c = c .before .before .before .before .before .before .before .before
+to-amounts c = c .before .before
 
 abbrev to-put : tie.After-amount-of → tie.After-put-amounts
 to-put c = c .before .before .before
 
-same : {a a′ b b′ d d′ : ℤ} → a ≡ a′ → b ≡ b′ → d ≡ d′ → _≡_ {A = List ℤ} (a ∷ b ∷ d ∷ []) (a′ ∷ b′ ∷ d′ ∷ [])
-same e f g = rw (e, f, g)
-
 put : (c : tie.After-put-amounts) →
     let s = start (to-amounts c) .args in
-    c .put-amounts .last .0 ≡ encoded (amountsAt (s .terms) (now (s .body)) (s .h)) ++ drop (8 * amountsShown) (now (s .block))
+    c .put-amounts .last .1 .0 ≡ encoded (amountsAt (s .terms) (now (s .body)) (s .h)) ++ drop (8 * amountsShown) (now (s .block))
 put c =
     let s = start (to-amounts c) .args in
-    let b = now (s .body) in
-    let e = to-amounts c .hour-amounts .ensures in
-    let r = ranged (to-amounts c) in
-    c .put-amounts .ensures
-    ∙ ap (λ shown. encoded shown ++ drop (8 * amountsShown) (now (s .block)))
-    (same (back _ (r .on) ∙ on-is (s .terms) b (s .h) _ e) (back _ (r .off) ∙ off-is (s .terms) b (s .h) _ e)
-    (back _ (r .down) ∙ down-is (s .terms) b (s .h) _ e))
+    c .put-amounts .ensures ∙ ap (λ a. encoded (shownOf a) ++ drop (8 * amountsShown) (now (s .block))) (to-amounts c .hour-amounts .ensures)
 
 amount : (c : tie.After-amount-of) →
     let s = start (to-amounts (to-put c)) .args in
@@ -79,7 +69,7 @@ small c =
     rw (amount c) (amount-small (now (s .args .body)) (k .sound) (s .args .h) (k .below) (s .args .terms) (k .kept))
 
 put-amounts-requires : tie.Need-put-amounts-requires
-put-amounts-requires c κs = omega (arith, c .before .before .before .before .before .before .before .before .before .before .pre .1)
+put-amounts-requires c κs = (ranged (c .before), omega (arith, start (c .before) .pre .1))
 
 amount-of-requires : tie.Need-amount-of-requires
 amount-of-requires c κs = ranged (to-amounts (c .before .before))
@@ -99,6 +89,7 @@ charged : (b : List ℕ) (z m : ℤ) (at here : ℕ) → z ≡ m → at ≡ here
 charged b z m at here e f = rw (e, f)
 
 returns : tie.Need-returns
+unfolding hourBlock
 returns c =
     let p = c .before .before in
     let a = p .before .before .before in
@@ -107,7 +98,7 @@ returns c =
     let size : 8 * amountsShown + 8 * coordinatorsOf b ≡ 8 * hourNumbers (coordinatorsOf b) = omega arith in
     rw (← size)
     (bytes-more (amountsAt (s .args .terms) b (s .args .h)) (chargesAt (s .args .terms) b (s .args .h)) _ (now (s .args .block)) _ _ (8 * amountsShown)
-    (8 * coordinatorsOf b) (hour-is (s .args .terms) b (s .args .h)) (encoded-length (amountsAt (s .args .terms) b (s .args .h))) (put (to-put a))
+    (8 * coordinatorsOf b) refl (encoded-length (amountsAt (s .args .terms) b (s .args .h))) (put (to-put a))
     (rw (charged b _ _ _ _ (back _ (small a) ∙ amount a) (s .pre .0 .here)) at (p .hour-charges .ensures)))
 
 pub write-hour-spec : {M : Type 1} → statement M

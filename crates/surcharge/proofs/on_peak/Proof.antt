@@ -1,12 +1,13 @@
 use borrow.Author.Needs.{needs}
-use mathlib.Core.Path.{_≡_, ap₂, _∙_}
+use mathlib.Core.Path.{_≡_, refl, ap, ap₂, _∙_}
 use native.Mathlib.Omega.{arith}
 use borrow.Author.Tests.{le-leb, lt-leb}
 use lib.IntN.{_-ℤ_}
 use mir.Syntax.{w64}
+use Rattle.exact.specs.Round.{roundDiv}
 use Rattle.exact.specs.Floor.{atLeastZero}
 use Rattle.exact.proofs.Machine.{within}
-use Rattle.surcharge.specs.Surcharge.{surchargeOf, creditOf, onPeakOf}
+use Rattle.surcharge.specs.Surcharge.{surchargeOf, creditOf, onPeakOf, surchargeInCents, creditInCents}
 use Rattle.surcharge.proofs.Sizes.{difference-small}
 use Rattle.surcharge.proofs.Rounded.{rounded-once}
 use Rattle.surcharge.proofs.on_peak.Statement.{statement}
@@ -21,8 +22,8 @@ value : (c : tie.After-credit) →
 value c = ap₂ _-ℤ_ (c .before .surcharge .ensures) (c .credit .ensures)
 
 returns : tie.Need-returns
-unfolding onPeakOf
-returns c = simp (le-leb _ _ (c .if1 .taken))
+unfolding onPeakOf surchargeInCents creditInCents
+returns c = simp (le-leb _ _ (c .if1 .taken)) (refl, refl, refl)
 
 minus-requires : tie.Need-minus-requires
 minus-requires c κs =
@@ -38,11 +39,18 @@ minus-requires c κs =
     )))
 
 returns-2 : tie.Need-returns-2
-unfolding onPeakOf
+unfolding onPeakOf surchargeInCents creditInCents
 returns-2 c =
-    rounded-once atLeastZero _ (c .rounded .ensures) (c .before .at-least-zero .ensures) (c .before .before .minus .ensures ∙ value (c .before .before .before))
-    ∙ simp (lt-leb _ _ (c .before .before .before .before .before .if1 .left))
+    let r = c .before .before in
+    let m = r .before .before in
+    let k = m .before in
+    simp (lt-leb _ _ (k .before .before .if1 .left)) (
+      rounded-once atLeastZero _ (r .rounded .ensures) (r .before .at-least-zero .ensures) (m .minus .ensures ∙ value k),
+      c .before .rounded2 .ensures ∙ ap (λ z. roundDiv z 400000) (k .before .surcharge .ensures),
+      c .rounded3 .ensures ∙ ap (λ z. roundDiv z 400000) (k .credit .ensures),
+    )
 
 pub on-peak-spec : {M : Type 1} → statement M
 on-peak-spec =
-    tie.close (tie.spec returns (λ c κs. search needs) (λ c κs. search needs) minus-requires (λ c κs. search needs) (λ c κs. search needs) returns-2)
+    tie.close (tie.spec returns (λ c κs. search needs) (λ c κs. search needs) minus-requires (λ c κs. search needs) (λ c κs. search needs)
+    (λ c κs. search needs) (λ c κs. search needs) returns-2)

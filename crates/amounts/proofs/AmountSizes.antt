@@ -6,7 +6,11 @@ use mathlib.Core.Path.{_≡_, ap, _∙_}
 use native.Mathlib.Omega.{arith}
 use lib.Dec.{eqb}
 use lib.IntN.{ℤ, pos, natAbs, _+ℤ_}
+use mir.Syntax.{w64}
+use mir.Val.{SFits, toZ, ofZ}
+use mir.ValLaws.{toZ-ofZ}
 use Rattle.exact.proofs.Magnitude.{abs-add}
+use Rattle.exact.proofs.Machine.{within}
 use Rattle.limits.specs.Ranges.{dayHours, mostMarketPrice, mostAmount, plainPoints}
 use Rattle.body.specs.Layout.{flagOf, hourAt}
 use Rattle.body.specs.Kept.{Sound}
@@ -18,11 +22,19 @@ use Rattle.surcharge.specs.Surcharge.{peakHour, onPeakOf, offPeakOf}
 use Rattle.amounts.specs.declared.Amounts.{Amounts}
 use Rattle.amounts.specs.Ranges.{AmountsRanged}
 use Rattle.amounts.specs.Amounts.{upwardAt, tierAt, dayTier, dayUpward, hubPrice, hourPrice, priceFrom, onPeakAtPrice, offPeakAtPrice}
-use Rattle.amounts.specs.Amounts.{onPeakAmount, offPeakAmount, downwardAmount, surchargeAt, creditAtPrice, creditAt, amountAt, amountsOf}
+use Rattle.amounts.specs.Amounts.{onPeakAmount, offPeakAmount, downwardAmount, surchargeHour, surchargeAt, creditAtPrice, creditAt, amountAt}
+use Rattle.amounts.specs.Amounts.{amountsOf}
 use Rattle.surcharge.proofs.Sizes.{mostOnPeakAmount, mostOffPeakAmount, mostDownwardAmount, on-peak-small, off-peak-small, downward-small}
 use Rattle.surcharge.proofs.Sizes.{surcharge-in-cents-small, credit-in-cents-small}
 use Rattle.amounts.proofs.Quantities as Q
 use Rattle.amounts.proofs.Hours.{hour-ranged, pairs-ranged, most-small, hub-small}
+
+-- what can be shared fits 64 bits, and is read back from them
+pub amount-fits : (z : ℤ) → natAbs z ≤ mostAmount → SFits w64 z
+amount-fits z h = within w64 z (omega arith)
+
+pub amount-back : (z : ℤ) → natAbs z ≤ mostAmount → toZ w64 (ofZ w64 z) ≡ z
+amount-back z h = toZ-ofZ w64 z (amount-fits z h)
 
 -- of an amount that is made in some hours only
 where-made : (m : ℕ) (t : Bool) (z : ℤ) → natAbs z ≤ m → natAbs (cond t z (pos 0)) ≤ m
@@ -52,13 +64,13 @@ module _ (body : List ℕ) (sound : Sound plainPoints body) (h : ℕ) (below : h
       surcharge-small : natAbs (surchargeAt terms body h) ≤ mostOnPeakAmount
       unfolding surchargeAt
       surcharge-small =
-          where-made mostOnPeakAmount (eqb (flagOf body) 1 && peakHour terms h) _
+          where-made mostOnPeakAmount (surchargeHour terms body h) _
           (surcharge-in-cents-small terms kept _ (most-small body sound terms) _ (dayTier terms body) (hub-small body sound))
 
       credit-small : natAbs (creditAt terms body h) ≤ mostOnPeakAmount
       unfolding creditAtPrice creditAt
       credit-small =
-          where-made mostOnPeakAmount (eqb (flagOf body) 1 && peakHour terms h) _
+          where-made mostOnPeakAmount (surchargeHour terms body h) _
           (credit-in-cents-small terms kept _ (most-small body sound terms) (dayTier terms body) (tierAt body h) _ price-small)
 
       off-of : natAbs (offPeakOf terms (upwardAt body h) (tierAt body h) (hourPrice body h)) ≤ mostOffPeakAmount

@@ -84,12 +84,15 @@ module _ (terms : Terms) (body : List ℕ) where
   unfoldable pub downwardAmount : ℕ → ℤ
   downwardAmount h = cond (eqb (flagOf body) 1) (downwardOf terms (downwardFrom body (hourAt body h)) (mecAt body h)) (pos 0)
 
-  -- S and the credit as an hour shows them; "both are 0 outside peak hours, .. and with flag 0"
+  -- the hours that show S and a credit: "both are 0 outside peak hours, .. and with flag 0"
+  abbrev pub surchargeHour : ℕ → Bool
+  surchargeHour h = eqb (flagOf body) 1 && peakHour terms h
+
   unfoldable pub surchargeAt : ℕ → ℤ
-  surchargeAt h = cond (eqb (flagOf body) 1 && peakHour terms h) (surchargeInCents terms dayUpward (hubPrice body) dayTier) (pos 0)
+  surchargeAt h = cond (surchargeHour h) (surchargeInCents terms dayUpward (hubPrice body) dayTier) (pos 0)
 
   unfoldable pub creditAtPrice : ℕ → ℤ → ℤ
-  creditAtPrice h price = cond (eqb (flagOf body) 1 && peakHour terms h) (creditInCents dayUpward dayTier (tierAt body h) price) (pos 0)
+  creditAtPrice h price = cond (surchargeHour h) (creditInCents dayUpward dayTier (tierAt body h) price) (pos 0)
 
   unfoldable pub creditAt : ℕ → ℤ
   creditAt h = creditAtPrice h (hourPrice body h)

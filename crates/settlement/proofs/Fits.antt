@@ -7,10 +7,7 @@ use native.Mathlib.Nat.{le-refl}
 use native.Mathlib.Omega.{arith}
 use lib.Dec.{eqb}
 use lib.IntN.{ℤ, natAbs}
-use mir.Syntax.{w64}
-use mir.Val.{SFits}
 use Rattle.exact.specs.Total.{total}
-use Rattle.exact.proofs.Machine.{within}
 use Rattle.words.specs.Bytes.{wordsFrom}
 use Rattle.limits.specs.Ranges.{dayHours, mostAmount, mostDemand, plainPoints}
 use Rattle.encoding.specs.Encoding.{AllFit}
@@ -22,12 +19,9 @@ use Rattle.shares.proofs.Fits.{shares-fit}
 use Rattle.surcharge.specs.declared.Terms.{Terms}
 use Rattle.surcharge.specs.Ranges.{TermsKept}
 use Rattle.amounts.specs.Amounts.{amountAt, amountsOf}
-use Rattle.amounts.proofs.AmountSizes.{amount-small, amounts-ranged}
+use Rattle.amounts.proofs.AmountSizes.{amount-fits, amount-small, amounts-ranged}
 use Rattle.statement.specs.Block.{chargesFrom, hourBlock, hoursBlock, block}
 use Rattle.statement.proofs.Demands.{demands-ranged}
-
-small : (z : ℤ) → natAbs z ≤ mostAmount → SFits w64 z
-small z h = within w64 z (omega arith)
 
 charges-fit : (kind : ℕ) (amount : ℤ) (body : List ℕ) (from count : ℕ) → natAbs amount ≤ mostAmount → total (wordsFrom body from count) ≤ mostDemand
     → AllFit (chargesFrom kind amount body from count)
@@ -36,15 +30,15 @@ charges-fit kind amount body from count h d = by (eqb kind 1) refl
   where
     by : (t : Bool) → eqb kind 1 ≡ t → AllFit (chargesFrom kind amount body from count)
     by true e = rw e (shares-fit amount (wordsFrom body from count) (share-fits amount _ h d))
-    by false e = rw e (fit-cons amount [] (small amount h) fit-none)
+    by false e = rw e (fit-cons amount [] (amount-fits amount h) fit-none)
 
 hour-fits : (terms : Terms) (body : List ℕ) (h : ℕ) → TermsKept terms → Sound plainPoints body → h < dayHours → AllFit (hourBlock terms body h)
 unfolding hourBlock amountsOf
 hour-fits terms body h kept sound below =
     let r = amounts-ranged terms body h (amountsOf terms body h) refl sound below kept in
     let a = amount-small body sound h below terms kept in
-    fit-cons _ _ (small _ (r .on)) (fit-cons _ _ (small _ (r .off)) (fit-cons _ _ (small _ (r .down))
-    (fit-cons _ _ (small _ (r .surcharge)) (fit-cons _ _ (small _ (r .credit))
+    fit-cons _ _ (amount-fits _ (r .on)) (fit-cons _ _ (amount-fits _ (r .off)) (fit-cons _ _ (amount-fits _ (r .down))
+    (fit-cons _ _ (amount-fits _ (r .surcharge)) (fit-cons _ _ (amount-fits _ (r .credit))
     (charges-fit (kindOf body) (amountAt terms body h) body (demandsAt body h) (coordinatorsOf body) a (demands-ranged body sound h below .sum))))))
 
 module _ (terms : Terms) (body : List ℕ) (kept : TermsKept terms) (sound : Sound plainPoints body) where

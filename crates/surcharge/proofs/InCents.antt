@@ -5,60 +5,47 @@ use mathlib.Core.Path.{_≡_, refl}
 use native.Mathlib.Omega.{arith}
 use borrow.Author.Tests.{le-leb, ne-eqb}
 use lib.Dec.{leb}
-use lib.IntN.{ℤ, pos, negsuc, natAbs, subℕ, _-ℤ_, _*ℤ_, negℤ-negℤ}
+use lib.IntN.{ℤ, pos, negsuc, natAbs, _-ℤ_, _*ℤ_, negℤ-negℤ}
 use Rattle.exact.specs.Round.{halfUp, roundDiv}
 use Rattle.exact.specs.Floor.{atLeastZero}
 use Rattle.exact.proofs.Magnitude.{sub-ind}
 use Rattle.exact.proofs.Difference.{minus-sub, abs-sub-lt}
-use Rattle.exact.proofs.Round.{half-low, half-high, round-zero}
+use Rattle.exact.proofs.Round.{round-zero}
 use Rattle.surcharge.specs.declared.Terms.{Terms}
 use Rattle.surcharge.specs.Surcharge.{scaledMultiplier, surchargeOf, creditOf, onPeakOf, surchargeInCents, creditInCents}
 
 abbrev cents : ℕ → ℕ
 cents a = halfUp a 400000
 
--- two amounts of cents that are at most one apart
+-- an amount and what S and a credit leave are at most a cent apart
+abbrev Near : (amount s credit : ℤ) → Type 0
+Near amount s credit = natAbs (amount -ℤ atLeastZero (s -ℤ credit)) ≤ 1
+
 apart : (a b : ℕ) → a < b + 2 → b < a + 2 → natAbs (pos a -ℤ pos b) ≤ 1
 apart a b h k = rw (minus-sub a b) (omega (arith, abs-sub-lt a b 2 h k))
 
 -- a credit of 0 or more
 module _ (a e : ℕ) where
-  less : (w : ℕ) → w < cents a - cents e + 2 → cents a < w + cents e + 2 → (cents a < cents e → w < 2)
-      → natAbs (pos w -ℤ atLeastZero (pos (cents a) -ℤ pos (cents e))) ≤ 1
+  less : (w : ℕ) → w < cents a - cents e + 2 → cents a < w + cents e + 2 → Near (pos w) (pos (cents a)) (pos (cents e))
   unfolding atLeastZero
-  less w low high none =
+  less w low high =
       rw (minus-sub (cents a) (cents e))
-      (sub-ind (cents a) (cents e) (λ z. natAbs (pos w -ℤ atLeastZero z) ≤ 1) (λ l. apart w 0 (none l) (omega arith))
+      (sub-ind (cents a) (cents e) (λ z. natAbs (pos w -ℤ atLeastZero z) ≤ 1) (λ l. apart w 0 (omega arith) (omega arith))
       (λ l. apart w (cents a - cents e) (omega arith) (omega arith)))
 
-  credited : natAbs (roundDiv (atLeastZero (pos a -ℤ pos e)) 400000 -ℤ atLeastZero (pos (cents a) -ℤ pos (cents e))) ≤ 1
+  credited : Near (roundDiv (atLeastZero (pos a -ℤ pos e)) 400000) (pos (cents a)) (pos (cents e))
   unfolding roundDiv atLeastZero
   credited =
-      let al = half-low a 400000 in
-      let ah = half-high a 400000 (omega arith) in
-      let el = half-low e 400000 in
-      let eh = half-high e 400000 (omega arith) in
       rw (minus-sub a e)
-      (sub-ind a e (λ z. natAbs (roundDiv (atLeastZero z) 400000 -ℤ atLeastZero (pos (cents a) -ℤ pos (cents e))) ≤ 1)
-      (λ l. less (cents 0) (omega arith) (omega arith) (λ n. omega arith))
-      (λ l.
-      let wl = half-low (a - e) 400000 in
-      let wh = half-high (a - e) 400000 (omega arith) in
-      less (cents (a - e)) (omega arith) (omega arith) (λ n. omega arith)))
+      (sub-ind a e (λ z. Near (roundDiv (atLeastZero z) 400000) (pos (cents a)) (pos (cents e))) (λ l. less (cents 0) (omega arith) (omega arith))
+      (λ l. less (cents (a - e)) (omega arith) (omega arith)))
 
 -- one below 0 adds to S
-added : (a e : ℕ) → natAbs (roundDiv (atLeastZero (pos a -ℤ negsuc e)) 400000 -ℤ atLeastZero (pos (cents a) -ℤ roundDiv (negsuc e) 400000)) ≤ 1
+added : (a e : ℕ) → Near (roundDiv (atLeastZero (pos a -ℤ negsuc e)) 400000) (pos (cents a)) (roundDiv (negsuc e) 400000)
 unfolding roundDiv atLeastZero
-added a e =
-    let al = half-low a 400000 in
-    let ah = half-high a 400000 (omega arith) in
-    let el = half-low (suc e) 400000 in
-    let eh = half-high (suc e) 400000 (omega arith) in
-    let wl = half-low (a + suc e) 400000 in
-    let wh = half-high (a + suc e) 400000 (omega arith) in
-    rw (negℤ-negℤ (pos (cents (suc e)))) (apart (cents (a + suc e)) (cents a + cents (suc e)) (omega arith) (omega arith))
+added a e = rw (negℤ-negℤ (pos (cents (suc e)))) (apart (cents (a + suc e)) (cents a + cents (suc e)) (omega arith) (omega arith))
 
-rounded-two : (s c : ℤ) → natAbs (roundDiv (atLeastZero (atLeastZero s -ℤ c)) 400000 -ℤ atLeastZero (roundDiv (atLeastZero s) 400000 -ℤ roundDiv c 400000)) ≤ 1
+rounded-two : (s c : ℤ) → Near (roundDiv (atLeastZero (atLeastZero s -ℤ c)) 400000) (roundDiv (atLeastZero s) 400000) (roundDiv c 400000)
 unfolding roundDiv atLeastZero
 rounded-two (pos a) (pos e) = credited a e
 rounded-two (pos a) (negsuc e) = added a e
@@ -66,12 +53,12 @@ rounded-two (negsuc a) (pos e) = credited 0 e
 rounded-two (negsuc a) (negsuc e) = added 0 e
 
 module _ (terms : Terms) (most : ℕ) (hub : ℤ) (dayTier tier : ℕ) (price : ℤ) where
-  pub on-peak-near : natAbs (onPeakOf terms most hub dayTier tier price -ℤ atLeastZero (surchargeInCents terms most hub dayTier -ℤ creditInCents most dayTier tier price)) ≤ 1
+  pub on-peak-near : Near (onPeakOf terms most hub dayTier tier price) (surchargeInCents terms most hub dayTier) (creditInCents most dayTier tier price)
   unfolding onPeakOf surchargeInCents creditInCents surchargeOf atLeastZero
   on-peak-near = by (leb dayTier 1) refl
     where
       by : (t : Bool) → leb dayTier 1 ≡ t
-          → natAbs (onPeakOf terms most hub dayTier tier price -ℤ atLeastZero (surchargeInCents terms most hub dayTier -ℤ creditInCents most dayTier tier price)) ≤ 1
+          → Near (onPeakOf terms most hub dayTier tier price) (surchargeInCents terms most hub dayTier) (creditInCents most dayTier tier price)
       by true e = rw e zero-le
       by false e = rw e (rounded-two ((pos most *ℤ hub) *ℤ pos (scaledMultiplier terms dayTier)) (creditOf most tier price))
 

@@ -16,7 +16,8 @@ use Rattle.contents.specs.File.{areasOf, bodyAt}
 use Rattle.surcharge.specs.declared.Terms.{Terms}
 use Rattle.surcharge.specs.Surcharge.{peakHour}
 use Rattle.surcharge.proofs.InCents.{on-peak-near, none-in-cents, no-credit-in-cents}
-use Rattle.amounts.specs.Amounts.{tierAt, dayTier, dayUpward, hubPrice, hourPrice, onPeakAtPrice, creditAtPrice, onPeakAmount, surchargeAt, creditAt}
+use Rattle.amounts.specs.Amounts.{tierAt, dayTier, dayUpward, hubPrice, hourPrice, onPeakAtPrice, creditAtPrice, onPeakAmount, surchargeHour, surchargeAt}
+use Rattle.amounts.specs.Amounts.{creditAt}
 use Rattle.settlement.specs.Settlement.{termsBy, ownDays, settleBy}
 use Rattle.settlement.specs.Shown.{statementLeftBy}
 use Rattle.settlement.proofs.Shown.{on-peak-shown, surcharge-shown, credit-shown}
@@ -28,38 +29,34 @@ never false = refl
 
 -- over the definitions
 module _ (terms : Terms) (body : List ℕ) (h : ℕ) where
-  -- whether the hour is one in which they are shown
-  abbrev made : Bool
-  made = eqb (flagOf body) 1 && peakHour terms h
-
   near : natAbs (onPeakAmount terms body h -ℤ atLeastZero (surchargeAt terms body h -ℤ creditAt terms body h)) ≤ 1
   unfolding onPeakAtPrice creditAtPrice onPeakAmount surchargeAt creditAt atLeastZero
-  near = by made refl
+  near = by (surchargeHour terms body h) refl
     where
-      by : (t : Bool) → made ≡ t → natAbs (onPeakAmount terms body h -ℤ atLeastZero (surchargeAt terms body h -ℤ creditAt terms body h)) ≤ 1
+      by : (t : Bool) → surchargeHour terms body h ≡ t → natAbs (onPeakAmount terms body h -ℤ atLeastZero (surchargeAt terms body h -ℤ creditAt terms body h)) ≤ 1
       by true e = rw e (on-peak-near terms (dayUpward terms body) (hubPrice body) (dayTier terms body) (tierAt body h) (hourPrice body h))
       by false e = rw e zero-le
 
-  unmade : made ≡ false → (surchargeAt terms body h ≡ pos 0) × (creditAt terms body h ≡ pos 0)
+  nothing-shown : surchargeHour terms body h ≡ false → (surchargeAt terms body h ≡ pos 0) × (creditAt terms body h ≡ pos 0)
   unfolding creditAtPrice surchargeAt creditAt
-  unmade e = rw e (refl, refl)
+  nothing-shown e = rw e (refl, refl)
 
   nothing : (peakHour terms h ≡ false) ⊎ ((dayTier terms body ≤ 1) ⊎ (flagOf body ≡ 1 → ⊥))
       → (surchargeAt terms body h ≡ pos 0) × (creditAt terms body h ≡ pos 0)
   unfolding creditAtPrice surchargeAt creditAt
-  nothing (inl e) = unmade (rw e (never (eqb (flagOf body) 1)))
-  nothing (inr (inl p)) = by made refl
+  nothing (inl e) = nothing-shown (rw e (never (eqb (flagOf body) 1)))
+  nothing (inr (inl p)) = by (surchargeHour terms body h) refl
     where
-      by : (t : Bool) → made ≡ t → (surchargeAt terms body h ≡ pos 0) × (creditAt terms body h ≡ pos 0)
+      by : (t : Bool) → surchargeHour terms body h ≡ t → (surchargeAt terms body h ≡ pos 0) × (creditAt terms body h ≡ pos 0)
       by true e = rw e (none-in-cents terms (dayUpward terms body) (hubPrice body) (dayTier terms body) (tierAt body h) (hourPrice body h) p)
-      by false e = unmade e
-  nothing (inr (inr e)) = unmade (rw (ne-eqb (flagOf body) 1 e))
+      by false e = nothing-shown e
+  nothing (inr (inr e)) = nothing-shown (rw (ne-eqb (flagOf body) 1 e))
 
   failed : (tierAt body h ≡ 0 → ⊥) → creditAt terms body h ≡ pos 0
   unfolding creditAtPrice creditAt
-  failed p = by made refl
+  failed p = by (surchargeHour terms body h) refl
     where
-      by : (t : Bool) → made ≡ t → creditAt terms body h ≡ pos 0
+      by : (t : Bool) → surchargeHour terms body h ≡ t → creditAt terms body h ≡ pos 0
       by true e = rw e (no-credit-in-cents terms (dayUpward terms body) (hubPrice body) (dayTier terms body) (tierAt body h) (hourPrice body h) p)
       by false e = rw e
 

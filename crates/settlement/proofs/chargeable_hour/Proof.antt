@@ -7,15 +7,12 @@ use native.Mathlib.Omega.{arith}
 use lib.Dec.{eqb, ltb}
 use lib.IntN.{natAbs}
 use borrow.Author.Tests.{eq-eqb, ne-eqb, lt-ltb}
-use mir.Syntax.{w64}
-use mir.ValLaws.{toZ-ofZ}
 use Rattle.exact.specs.Total.{total}
 use Rattle.words.specs.Bytes.{wordsFrom}
-use Rattle.exact.proofs.Machine.{within}
 use Rattle.limits.specs.Ranges.{mostAmount}
 use Rattle.body.specs.Layout.{demandsOf, kindOf}
 use Rattle.amounts.specs.Amounts.{amountAt}
-use Rattle.amounts.proofs.AmountSizes.{amount-small, amount-is, amounts-ranged}
+use Rattle.amounts.proofs.AmountSizes.{amount-back, amount-small, amount-is, amounts-ranged}
 use Rattle.statement.specs.Ranges.{DemandsRanged}
 use Rattle.statement.proofs.Demands.{demands-ranged}
 use Rattle.settlement.specs.Settlement.{chargeable}
@@ -98,9 +95,8 @@ returns-3 c =
     let w = a .before .before .before .before .before .before in
     let kind : kindOf (now (s .body)) ≡ 1 = sym (w .before .word .ensures) ∙ w .if1 .left in
     let z = a .amount-of .result .0 in
-    let back = toZ-ofZ w64 z (within w64 z (omega (arith, small a))) in
     c .shareable .ensures
-    ∙ ap₂ (λ x t. eqb (natAbs x) 0 || ltb 0 t) (back ∙ amount-there a) (total-is (a .before .before .before))
+    ∙ ap₂ (λ x t. eqb (natAbs x) 0 || ltb 0 t) (amount-back z (small a) ∙ amount-there a) (total-is (a .before .before .before))
     ∙ rw (eq-eqb _ _ kind)
 
 pub chargeable-hour-spec : {M : Type 1} → statement M

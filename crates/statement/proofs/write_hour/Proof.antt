@@ -6,17 +6,13 @@ use mathlib.Core.Path.{_≡_, refl, ap, _∙_}
 use native.Mathlib.Omega.{arith}
 use lib.IntN.{ℤ, natAbs}
 use lib.ListN.{drop, length-take, length-drop}
-use mir.Syntax.{w64}
-use mir.Val.{toZ, ofZ}
-use mir.ValLaws.{toZ-ofZ}
-use Rattle.exact.proofs.Machine.{within}
 use Rattle.limits.specs.Ranges.{mostAmount}
 use Rattle.encoding.specs.Encoding.{encoded}
 use Rattle.encoding.proofs.Encoding.{bytes-more, encoded-length}
 use Rattle.body.specs.Layout.{kindOf, pointsOf, coordinatorsOf}
 use Rattle.amounts.specs.Amounts.{amountAt}
 use Rattle.amounts.specs.Ranges.{AmountsRanged}
-use Rattle.amounts.proofs.AmountSizes.{amount-small, amount-is, amounts-ranged}
+use Rattle.amounts.proofs.AmountSizes.{amount-back, amount-small, amount-is, amounts-ranged}
 use Rattle.statement.specs.Block.{amountsShown, hourNumbers, chargesFrom, shownOf, amountsAt, chargesAt, hourBlock}
 use Rattle.statement.specs.Ranges.{DemandsRanged}
 use Rattle.statement.proofs.Demands.{demands-ranged}
@@ -32,10 +28,6 @@ ranged c =
     let s = start c in
     let k = s .pre .0 in
     amounts-ranged (s .args .terms) (now (s .args .body)) (s .args .h) _ (c .hour-amounts .ensures) (k .sound) (k .below) (k .kept)
-
--- what is read back of an amount
-back : (z : ℤ) → natAbs z ≤ mostAmount → toZ w64 (ofZ w64 z) ≡ z
-back z h = toZ-ofZ w64 z (within w64 z (omega arith))
 
 demands : (s : tie.Start) → DemandsRanged (now (s .args .body)) (s .args .at)
 demands s = let k = s .pre .0 in rw (k .here) (demands-ranged (now (s .args .body)) (k .sound) (s .args .h) (k .below))
@@ -78,7 +70,7 @@ hour-charges-requires : tie.Need-hour-charges-requires
 hour-charges-requires c κs =
     let a = c .before .before in
     let s = start (to-amounts (to-put a)) in
-    rw (back _ (small a)) (small a, (demands s, simp (length-take, length-drop) (omega (arith, s .pre .1))))
+    rw (amount-back _ (small a)) (small a, (demands s, simp (length-take, length-drop) (omega (arith, s .pre .1))))
 
 part-hour-charges-start : tie.Need-part-hour-charges-start
 part-hour-charges-start c = omega (arith, start (to-amounts (to-put c)) .pre .1)
@@ -99,7 +91,7 @@ returns c =
     rw (← size)
     (bytes-more (amountsAt (s .args .terms) b (s .args .h)) (chargesAt (s .args .terms) b (s .args .h)) _ (now (s .args .block)) _ _ (8 * amountsShown)
     (8 * coordinatorsOf b) refl (encoded-length (amountsAt (s .args .terms) b (s .args .h))) (put (to-put a))
-    (rw (charged b _ _ _ _ (back _ (small a) ∙ amount a) (s .pre .0 .here)) at (p .hour-charges .ensures)))
+    (rw (charged b _ _ _ _ (amount-back _ (small a) ∙ amount a) (s .pre .0 .here)) at (p .hour-charges .ensures)))
 
 pub write-hour-spec : {M : Type 1} → statement M
 write-hour-spec =

@@ -17,15 +17,15 @@ use Rattle.body.specs.Kept.{Sound}
 use Rattle.body.proofs.Kept.{always}
 use Rattle.price.proofs.Answers.{price-within}
 use Rattle.surcharge.specs.declared.Terms.{Terms}
-use Rattle.surcharge.specs.Ranges.{TermsKept}
+use Rattle.surcharge.specs.Ranges.{TermsKept, mostSurcharge}
 use Rattle.surcharge.specs.Surcharge.{peakHour, onPeakOf, offPeakOf}
 use Rattle.amounts.specs.declared.Amounts.{Amounts}
 use Rattle.amounts.specs.Ranges.{AmountsRanged}
-use Rattle.amounts.specs.Amounts.{upwardAt, tierAt, dayTier, dayUpward, hubPrice, hourPrice, priceFrom, onPeakAtPrice, offPeakAtPrice}
+use Rattle.amounts.specs.Amounts.{upwardAt, tierAt, dayTier, dayUpward, daySurcharge, hourPrice, priceFrom, onPeakAtPrice, offPeakAtPrice}
 use Rattle.amounts.specs.Amounts.{onPeakAmount, offPeakAmount, downwardAmount, surchargeHour, surchargeAt, creditAtPrice, creditAt, amountAt}
 use Rattle.amounts.specs.Amounts.{amountsOf}
 use Rattle.surcharge.proofs.Sizes.{mostOnPeakAmount, mostOffPeakAmount, mostDownwardAmount, on-peak-small, off-peak-small, downward-small}
-use Rattle.surcharge.proofs.Sizes.{surcharge-in-cents-small, credit-in-cents-small}
+use Rattle.surcharge.proofs.Sizes.{surcharge-small, surcharge-in-cents-small, credit-in-cents-small}
 use Rattle.amounts.proofs.Quantities as Q
 use Rattle.amounts.proofs.Hours.{hour-ranged, pairs-ranged, most-small, hub-small}
 
@@ -54,24 +54,28 @@ module _ (body : List ℕ) (sound : Sound plainPoints body) (h : ℕ) (below : h
         (downward-small terms _ _ (Q.downward-small body (hourAt body h) (hour-ranged body sound h below)) (sound .mec h below always))
 
     module _ (kept : TermsKept terms) where
-      on-of : natAbs (onPeakOf terms (dayUpward terms body) (hubPrice body) (dayTier terms body) (tierAt body h) (hourPrice body h)) ≤ mostOnPeakAmount
-      on-of = on-peak-small terms kept _ (most-small body sound terms) _ (dayTier terms body) (tierAt body h) _ (hub-small body sound) price-small
+      s-small : natAbs (daySurcharge terms body) ≤ mostSurcharge
+      unfolding daySurcharge
+      s-small = surcharge-small terms kept _ (most-small body sound terms) _ (hub-small body sound) (dayTier terms body)
+
+      on-of : natAbs (onPeakOf (daySurcharge terms body) (dayUpward terms body) (dayTier terms body) (tierAt body h) (hourPrice body h)) ≤ mostOnPeakAmount
+      on-of = on-peak-small _ (most-small body sound terms) (dayTier terms body) (tierAt body h) _ price-small _ s-small
 
       on-small : natAbs (onPeakAmount terms body h) ≤ mostOnPeakAmount
       unfolding onPeakAtPrice onPeakAmount
       on-small = where-made mostOnPeakAmount (eqb (flagOf body) 1 && peakHour terms h) _ on-of
 
-      surcharge-small : natAbs (surchargeAt terms body h) ≤ mostOnPeakAmount
+      shown-small : natAbs (surchargeAt terms body h) ≤ mostOnPeakAmount
       unfolding surchargeAt
-      surcharge-small =
+      shown-small =
           where-made mostOnPeakAmount (surchargeHour terms body h) _
-          (surcharge-in-cents-small terms kept _ (most-small body sound terms) _ (dayTier terms body) (hub-small body sound))
+          (surcharge-in-cents-small (daySurcharge terms body) (dayTier terms body) s-small)
 
       credit-small : natAbs (creditAt terms body h) ≤ mostOnPeakAmount
       unfolding creditAtPrice creditAt
       credit-small =
           where-made mostOnPeakAmount (surchargeHour terms body h) _
-          (credit-in-cents-small terms kept _ (most-small body sound terms) (dayTier terms body) (tierAt body h) _ price-small)
+          (credit-in-cents-small _ (most-small body sound terms) (dayTier terms body) (tierAt body h) _ price-small)
 
       off-of : natAbs (offPeakOf terms (upwardAt body h) (tierAt body h) (hourPrice body h)) ≤ mostOffPeakAmount
       off-of = off-peak-small terms kept _ (Q.upward-small body (hourAt body h) (hour-ranged body sound h below)) (tierAt body h) _ price-small
@@ -129,6 +133,6 @@ module _ (terms : Terms) (body : List ℕ) (h : ℕ) (amounts : Amounts) (is : a
         on = rw on-is (omega (arith, on-small body sound h below terms kept));
         off = rw off-is (omega (arith, off-small body sound h below terms kept));
         down = rw down-is (omega (arith, down-small body sound h below terms));
-        surcharge = rw surcharge-is (omega (arith, surcharge-small body sound h below terms kept));
+        surcharge = rw surcharge-is (omega (arith, shown-small body sound h below terms kept));
         credit = rw credit-is (omega (arith, credit-small body sound h below terms kept));
       }

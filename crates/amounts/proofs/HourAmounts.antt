@@ -13,11 +13,12 @@ use Rattle.price.proofs.Answers.{price-within}
 use Rattle.surcharge.specs.declared.Day.{Day}
 use Rattle.surcharge.specs.declared.Terms.{Terms}
 use Rattle.amounts.specs.declared.Amounts.{Amounts}
-use Rattle.surcharge.specs.Surcharge.{peakHour, onPeakOf, surchargeInCents, creditInCents, offPeakOf, downwardOf, needsPrice}
-use Rattle.amounts.specs.Amounts.{downwardFrom, upwardAt, tierAt, dayTier, dayUpward, hubPrice, hourPrice, priceFrom, priceIf, dayFacts}
+use Rattle.surcharge.specs.Surcharge.{peakHour, onPeakOf, surchargeInCents, creditInCents, offPeakOf, downwardOf, needsPrice, dayOf}
+use Rattle.amounts.specs.Amounts.{downwardFrom, upwardAt, tierAt, dayTier, dayUpward, daySurcharge, hourPrice, priceFrom, priceIf, dayFacts}
 use Rattle.amounts.specs.Amounts.{onPeakAtPrice, offPeakAtPrice, onPeakAmount, offPeakAmount, downwardAmount, surchargeAt, creditAtPrice, creditAt, amountsOf}
-use Rattle.surcharge.specs.Ranges.{DayRanged}
+use Rattle.surcharge.specs.Ranges.{TermsKept, DayRanged}
 use Rattle.amounts.specs.Ranges.{PairsRanged}
+use Rattle.surcharge.proofs.Sizes.{surcharge-small}
 use Rattle.surcharge.proofs.Unneeded.{on-unneeded, off-unneeded}
 use Rattle.amounts.proofs.Hours.{most-small, hub-small}
 
@@ -31,35 +32,41 @@ price-if-small false body load from r = zero-le
 
 module _ (terms : Terms) (day : Day) (body : List ℕ) (is : day ≡ dayFacts terms body) where
   most-is : day .most .0 ≡ dayUpward terms body
-  unfolding dayFacts
+  unfolding dayFacts dayOf
   most-is = ap (λ d. d .most .0) is
 
-  hub-is : day .hub .0 ≡ hubPrice body
-  unfolding dayFacts
-  hub-is = ap (λ d. d .hub .0) is
+  s-is : day .surcharge .0 ≡ daySurcharge terms body
+  unfolding dayFacts dayOf daySurcharge
+  s-is = ap (λ d. d .surcharge .0) is
+
+  pub shown-is : day .shown .0 ≡ surchargeInCents (daySurcharge terms body) (dayTier terms body)
+  unfolding dayFacts dayOf daySurcharge
+  shown-is = ap (λ d. d .shown .0) is
 
   pub tier-is : day .tier ≡ dayTier terms body
-  unfolding dayFacts
+  unfolding dayFacts dayOf
   tier-is = ap (λ d. d .tier) is
 
-  pub day-ranged : Sound plainPoints body → DayRanged day
-  day-ranged sound = record { most = rw most-is (most-small body sound terms); hub = rw hub-is (hub-small body sound) }
+  pub day-ranged : TermsKept terms → Sound plainPoints body → DayRanged day
+  unfolding daySurcharge
+  day-ranged kept sound =
+      record {
+        most = rw most-is (most-small body sound terms);
+        surcharge = rw s-is (surcharge-small terms kept _ (most-small body sound terms) _ (hub-small body sound) (dayTier terms body));
+      }
 
   -- the on-peak amount and the credit with the price that was used are those with the hour's price
   pub on-is : (h : ℕ) (t : Bool) → t ≡ needsPrice 1 true (day .tier) (tierAt body h)
       → let used = priceIf t body (intervalsAt body h) in
-      (onPeakOf terms (day .most .0) (day .hub .0) (day .tier) (tierAt body h) used
-      ≡ onPeakOf terms (dayUpward terms body) (hubPrice body) (dayTier terms body) (tierAt body h) (hourPrice body h))
+      (onPeakOf (day .surcharge .0) (day .most .0) (day .tier) (tierAt body h) used
+      ≡ onPeakOf (daySurcharge terms body) (dayUpward terms body) (dayTier terms body) (tierAt body h) (hourPrice body h))
       × (creditInCents (day .most .0) (day .tier) (tierAt body h) used
       ≡ creditInCents (dayUpward terms body) (dayTier terms body) (tierAt body h) (hourPrice body h))
   unfolding priceIf
-  on-is h true e = rw (most-is, hub-is, tier-is) (refl, refl)
+  on-is h true e = rw (most-is, s-is, tier-is) (refl, refl)
   on-is h false e =
-      let same = on-unneeded terms (day .most .0) (day .hub .0) (day .tier) (tierAt body h) (pos 0) (hourPrice body h) (sym e) in
-      (same .0 ∙ rw (most-is, hub-is, tier-is), same .1 ∙ rw (most-is, tier-is))
-
-  pub surcharge-is : surchargeInCents terms (day .most .0) (day .hub .0) (day .tier) ≡ surchargeInCents terms (dayUpward terms body) (hubPrice body) (dayTier terms body)
-  surcharge-is = rw (most-is, hub-is, tier-is)
+      let same = on-unneeded (day .surcharge .0) (day .most .0) (day .tier) (tierAt body h) (pos 0) (hourPrice body h) (sym e) in
+      (same .0 ∙ rw (most-is, s-is, tier-is), same .1 ∙ rw (most-is, tier-is))
 
 pub off-is : (terms : Terms) (body : List ℕ) (h : ℕ) (t : Bool) → t ≡ leb 2 (tierAt body h)
     → offPeakOf terms (upwardAt body h) (tierAt body h) (priceIf t body (intervalsAt body h))
@@ -90,9 +97,9 @@ module _ (terms : Terms) (body : List ℕ) (h : ℕ) where
 
   module _ (flag : flagOf body ≡ 1) where
     pub in-peak : peakHour terms h ≡ true
-        → made (onPeakOf terms (dayUpward terms body) (hubPrice body) (dayTier terms body) (tierAt body h) (hourPrice body h)) (pos 0)
+        → made (onPeakOf (daySurcharge terms body) (dayUpward terms body) (dayTier terms body) (tierAt body h) (hourPrice body h)) (pos 0)
         (downwardOf terms (downwardFrom body (hourAt body h)) (mecAt body h))
-        (surchargeInCents terms (dayUpward terms body) (hubPrice body) (dayTier terms body))
+        (surchargeInCents (daySurcharge terms body) (dayTier terms body))
         (creditInCents (dayUpward terms body) (dayTier terms body) (tierAt body h) (hourPrice body h))
         ≡ amountsOf terms body h
     unfolding amountsOf onPeakAtPrice offPeakAtPrice onPeakAmount offPeakAmount downwardAmount surchargeAt creditAtPrice creditAt

@@ -15,7 +15,8 @@ use Rattle.price.specs.declared.PriceAnswer.{PriceAnswer}
 use Rattle.price.specs.Price.{averagePrice, answerPrice, answerNumber, answerCount}
 use Rattle.surcharge.specs.declared.Terms.{Terms}
 use Rattle.surcharge.specs.declared.Day.{Day}
-use Rattle.surcharge.specs.Surcharge.{peakHour, tierOf, greaterPrice, onPeakOf, surchargeInCents, creditInCents, offPeakOf, downwardOf, needsPrice}
+use Rattle.surcharge.specs.Surcharge.{peakHour, tierOf, greaterPrice, surchargeOf, onPeakOf, surchargeInCents, creditInCents, offPeakOf, downwardOf}
+use Rattle.surcharge.specs.Surcharge.{needsPrice, dayOf}
 use Rattle.amounts.specs.declared.Hour.{Hour}
 use Rattle.amounts.specs.declared.Amounts.{Amounts}
 
@@ -65,10 +66,14 @@ module _ (terms : Terms) (body : List ℕ) where
   abbrev pub dayUpward : ℕ
   dayUpward = highest terms (upwardAt body) dayHours
 
+  -- S of the day
+  unfoldable pub daySurcharge : ℤ
+  daySurcharge = surchargeOf terms dayUpward (hubPrice body) dayTier
+
   -- the amounts of an hour at a price; "All amounts of an area with EDAM flag 0 are 0"
   unfoldable pub onPeakAtPrice : ℕ → ℤ → ℤ
   onPeakAtPrice h price =
-      cond (eqb (flagOf body) 1 && peakHour terms h) (onPeakOf terms dayUpward (hubPrice body) dayTier (tierAt body h) price) (pos 0)
+      cond (eqb (flagOf body) 1 && peakHour terms h) (onPeakOf daySurcharge dayUpward dayTier (tierAt body h) price) (pos 0)
 
   unfoldable pub offPeakAtPrice : ℕ → ℤ → ℤ
   offPeakAtPrice h price =
@@ -89,7 +94,7 @@ module _ (terms : Terms) (body : List ℕ) where
   surchargeHour h = eqb (flagOf body) 1 && peakHour terms h
 
   unfoldable pub surchargeAt : ℕ → ℤ
-  surchargeAt h = cond (surchargeHour h) (surchargeInCents terms dayUpward (hubPrice body) dayTier) (pos 0)
+  surchargeAt h = cond (surchargeHour h) (surchargeInCents daySurcharge dayTier) (pos 0)
 
   unfoldable pub creditAtPrice : ℕ → ℤ → ℤ
   creditAtPrice h price = cond (surchargeHour h) (creditInCents dayUpward dayTier (tierAt body h) price) (pos 0)
@@ -123,7 +128,7 @@ priceRule terms start body h =
 
 -- the facts of an area's day
 unfoldable pub dayFacts : Terms → List ℕ → Day
-dayFacts terms body = record { tier = dayTier terms body; most = record { 0 = dayUpward terms body }; hub = record { 0 = hubPrice body } }
+dayFacts terms body = dayOf terms (dayTier terms body) (dayUpward terms body) (hubPrice body)
 
 -- U and the tier of an hour that counts; 0 and 0 of one that does not
 unfoldable pub hourFacts : Bool → List ℕ → ℕ → Hour

@@ -14,6 +14,7 @@ ghost use lib.ListN.{length};
 ghost use Rattle.words.specs.Word.{wordAt, signedOf};
 ghost use Rattle.limits.specs.Ranges.{plainPoints};
 ghost use Rattle.body.specs.Kept.{Sound};
+ghost use Rattle.surcharge.specs.Ranges.{TermsKept};
 ghost use Rattle.surcharge.specs.Surcharge.{downwardOf};
 ghost use Rattle.amounts.specs.Amounts.{upwardFrom, downwardFrom, hourFacts, dayFacts, amountsOf, dayTier, dayUpward, hubPrice, priceFrom};
 ghost use Rattle.amounts.specs.Amounts.{priceIf, usableRule, priceRule};
@@ -116,14 +117,12 @@ fn hub_price(body: &[u8]) -> HubPrice
 
 // The facts of an area's day under its terms.
 pub fn day_facts(terms: Terms, body: &[u8]) -> Day
-    requires { ⌜ Sound plainPoints (now body) ⌝ }
+    requires { ⌜ (TermsKept terms) × (Sound plainPoints (now body)) ⌝ }
     ensures { λ r. ⌜ r ≡ dayFacts terms (now (body .entry)) ⌝ }
 {
     let highest = highest_hour(terms, body);
     let most = highest.upward;
-    let tier = highest.tier;
-    let hub = hub_price(body);
-    Day { tier, most, hub }
+    surcharge::day_of(terms, highest.tier, most, hub_price(body))
 }
 
 // The price of an hour's interval pairs, which start at word `from`: that part of the body, uncopied.
@@ -183,9 +182,9 @@ pub fn hour_amounts(terms: Terms, day: Day, body: &[u8], h: usize, at: usize) ->
         at + 8,
     );
     if in_peak {
-        let on_peak = surcharge::on_peak(terms, day, tier, price);
+        let on_peak = surcharge::on_peak(day, tier, price);
         let on = on_peak.amount;
-        let surcharge = on_peak.surcharge;
+        let surcharge = day.shown;
         let credit = on_peak.credit;
         return Amounts {
             on,

@@ -20,9 +20,9 @@ use Rattle.price.proofs.MissingPrices.{missing-changes-nothing}
 use Rattle.surcharge.specs.declared.Terms.{Terms}
 use Rattle.amounts.proofs.Prices.{anywhere}
 use Rattle.surcharge.specs.Surcharge.{peakHour, greaterPrice}
-use Rattle.amounts.specs.Amounts.{highest, upwardFrom, downwardFrom, upwardAt, tierAt, dayTier, dayUpward, hubPrice, priceFrom, priceAnswerAt}
+use Rattle.amounts.specs.Amounts.{highest, upwardFrom, downwardFrom, upwardAt, tierAt, dayTier, dayUpward, daySurcharge, hubPrice, priceFrom}
 use Rattle.amounts.specs.Amounts.{onPeakAtPrice, offPeakAtPrice, creditAtPrice, onPeakAmount, offPeakAmount, downwardAmount, surchargeAt, creditAt}
-use Rattle.amounts.specs.Amounts.{amountAt, amountsOf, priceNeeded, usableRule, priceRule}
+use Rattle.amounts.specs.Amounts.{priceAnswerAt, amountAt, amountsOf, priceNeeded, usableRule, priceRule}
 
 pub record SameAmounts (body other : List ℕ) : Type 0 where
   -- kind, EDAM flag, persistent days, hub prices, load points
@@ -110,10 +110,14 @@ module _ (body other : List ℕ) (same : SameAmounts body other) where
     day-upward-same : dayUpward terms other ≡ dayUpward terms body
     day-upward-same = highest-same terms (upwardAt other) (upwardAt body) dayHours upward-same
 
+    s-same : daySurcharge terms other ≡ daySurcharge terms body
+    unfolding daySurcharge
+    s-same = rw (day-upward-same, hub-same, day-tier-same)
+
     module _ (h : ℕ) (below : h < dayHours) where
       on-peak-same : onPeakAmount terms other h ≡ onPeakAmount terms body h
       unfolding onPeakAtPrice onPeakAmount
-      on-peak-same = rw (flag-same, day-upward-same, hub-same, day-tier-same, tier-same h below, price-same h below)
+      on-peak-same = rw (flag-same, day-upward-same, s-same, day-tier-same, tier-same h below, price-same h below)
 
       off-peak-same : offPeakAmount terms other h ≡ offPeakAmount terms body h
       unfolding offPeakAtPrice offPeakAmount
@@ -125,7 +129,7 @@ module _ (body other : List ℕ) (same : SameAmounts body other) where
 
       surcharge-same : surchargeAt terms other h ≡ surchargeAt terms body h
       unfolding surchargeAt
-      surcharge-same = rw (flag-same, day-upward-same, hub-same, day-tier-same)
+      surcharge-same = rw (flag-same, s-same, day-tier-same)
 
       credit-same : creditAt terms other h ≡ creditAt terms body h
       unfolding creditAtPrice creditAt

@@ -14,14 +14,17 @@ use Rattle.price.specs.Price.{emptyAverage, answerOf, loadWeighted}
 use Rattle.price.specs.Intervals.{averageOver, firstIntervals}
 use Rattle.shares.specs.Shares.{sum, shares, mergedAt}
 use Rattle.surcharge.specs.declared.Terms.{Terms}
-use Rattle.surcharge.specs.Surcharge.{tierOf, greaterPrice, onPeakOf, surchargeInCents, creditInCents, offPeakOf, downwardOf}
+use Rattle.surcharge.specs.Surcharge.{tierOf, greaterPrice, surchargeOf, onPeakOf, surchargeInCents, creditInCents, offPeakOf, downwardOf}
 
--- "M 120, hubs 80.00 and 95.50, d 3, day tier 2": the on-peak amount of an hour, by its tier and price, and the S and the credit that it shows
+-- "M 120, hubs 80.00 and 95.50, d 3, day tier 2": S, the on-peak amount of an hour, by its tier and price, and the S and the credit that it shows
+abbrev pub exactSurcharge : ℤ
+exactSurcharge = surchargeOf (record { peak = peakWord; days = 3 }) 120000 (greaterPrice (pos 8000) (pos 9550)) 2
+
 abbrev pub onPeak : ℕ → ℤ → ℤ
-onPeak tier price = onPeakOf (record { peak = peakWord; days = 3 }) 120000 (greaterPrice (pos 8000) (pos 9550)) 2 tier price
+onPeak tier price = onPeakOf exactSurcharge 120000 2 tier price
 
 abbrev pub surcharge : ℤ
-surcharge = surchargeInCents (record { peak = peakWord; days = 3 }) 120000 (greaterPrice (pos 8000) (pos 9550)) 2
+surcharge = surchargeInCents exactSurcharge 2
 
 abbrev pub credit : ℕ → ℤ → ℤ
 credit tier price = creditInCents 120000 2 tier price

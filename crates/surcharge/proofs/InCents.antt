@@ -52,26 +52,29 @@ rounded-two (pos a) (negsuc e) = added a e
 rounded-two (negsuc a) (pos e) = credited 0 e
 rounded-two (negsuc a) (negsuc e) = added 0 e
 
-module _ (terms : Terms) (most : ℕ) (hub : ℤ) (dayTier tier : ℕ) (price : ℤ) where
-  pub on-peak-near : Near (onPeakOf terms most hub dayTier tier price) (surchargeInCents terms most hub dayTier) (creditInCents most dayTier tier price)
-  unfolding onPeakOf surchargeInCents creditInCents surchargeOf atLeastZero
-  on-peak-near = by (leb dayTier 1) refl
-    where
-      by : (t : Bool) → leb dayTier 1 ≡ t
-          → Near (onPeakOf terms most hub dayTier tier price) (surchargeInCents terms most hub dayTier) (creditInCents most dayTier tier price)
-      by true e = rw e zero-le
-      by false e = rw e (rounded-two ((pos most *ℤ hub) *ℤ pos (scaledMultiplier terms dayTier)) (creditOf most tier price))
+pub on-peak-near : (terms : Terms) (most : ℕ) (hub : ℤ) (dayTier tier : ℕ) (price : ℤ)
+    → let s = surchargeOf terms most hub dayTier in
+    Near (onPeakOf s most dayTier tier price) (surchargeInCents s dayTier) (creditInCents most dayTier tier price)
+unfolding onPeakOf surchargeInCents creditInCents surchargeOf atLeastZero
+on-peak-near terms most hub dayTier tier price = by (leb dayTier 1) refl
+  where
+    by : (t : Bool) → leb dayTier 1 ≡ t
+        → let s = surchargeOf terms most hub dayTier in
+        Near (onPeakOf s most dayTier tier price) (surchargeInCents s dayTier) (creditInCents most dayTier tier price)
+    by true e = rw e zero-le
+    by false e = rw e (rounded-two ((pos most *ℤ hub) *ℤ pos (scaledMultiplier terms dayTier)) (creditOf most tier price))
 
-  -- on a day of tier 0 or 1
-  pub none-in-cents : dayTier ≤ 1 → (surchargeInCents terms most hub dayTier ≡ pos 0) × (creditInCents most dayTier tier price ≡ pos 0)
-  unfolding surchargeInCents creditInCents
-  none-in-cents p = rw (le-leb dayTier 1 p) (refl, refl)
+-- on a day of tier 0 or 1
+pub none-in-cents : (s : ℤ) (most dayTier tier : ℕ) (price : ℤ) → dayTier ≤ 1
+    → (surchargeInCents s dayTier ≡ pos 0) × (creditInCents most dayTier tier price ≡ pos 0)
+unfolding surchargeInCents creditInCents
+none-in-cents s most dayTier tier price p = rw (le-leb dayTier 1 p) (refl, refl)
 
-  -- in a failed hour
-  pub no-credit-in-cents : (tier ≡ 0 → ⊥) → creditInCents most dayTier tier price ≡ pos 0
-  unfolding creditInCents creditOf
-  no-credit-in-cents p = by (leb dayTier 1) refl
-    where
-      by : (t : Bool) → leb dayTier 1 ≡ t → creditInCents most dayTier tier price ≡ pos 0
-      by true e = rw e
-      by false e = rw (e, ne-eqb tier 0 p) (round-zero 400000)
+-- in a failed hour
+pub no-credit-in-cents : (most dayTier tier : ℕ) (price : ℤ) → (tier ≡ 0 → ⊥) → creditInCents most dayTier tier price ≡ pos 0
+unfolding creditInCents creditOf
+no-credit-in-cents most dayTier tier price p = by (leb dayTier 1) refl
+  where
+    by : (t : Bool) → leb dayTier 1 ≡ t → creditInCents most dayTier tier price ≡ pos 0
+    by true e = rw e
+    by false e = rw (e, ne-eqb tier 0 p) (round-zero 400000)

@@ -11,13 +11,9 @@ use Rattle.exact.proofs.Floor.{abs-at-least, abs-at-most}
 use Rattle.exact.proofs.Round.{round-within}
 use Rattle.limits.specs.Ranges.{mostMarketPrice, mostHubPrice, mostDays, mostUpward, mostDownward}
 use Rattle.surcharge.specs.declared.Terms.{Terms}
-use Rattle.surcharge.specs.Ranges.{TermsKept}
+use Rattle.surcharge.specs.Ranges.{TermsKept, mostMultiplier, mostSurcharge}
 use Rattle.surcharge.specs.Surcharge.{downwardFloor, quarters, scaledMultiplier, surchargeOf, creditOf, onPeakOf, offPeakOf, downwardOf}
 use Rattle.surcharge.specs.Surcharge.{surchargeInCents, creditInCents}
-
--- m × (1 + d/100) at most, in four-hundredths
-abbrev mostMultiplier : ℕ
-mostMultiplier = 8 * (100 + mostDays)
 
 -- what each amount comes to at most, in cents
 abbrev pub mostOnPeakAmount : ℕ
@@ -64,47 +60,44 @@ module _ (terms : Terms) (kept : TermsKept terms) where
         (round-within mostOffPeakAmount _ 40000000 (omega arith)
         (omega (arith, abs-at-least ((pos upward *ℤ price) *ℤ pos (scaledMultiplier terms tier)), scaled-small)))
 
-module _ (terms : Terms) (kept : TermsKept terms) (most : ℕ) (most-small : most ≤ mostUpward) where
-  -- M × P × m × (1 + d/100)
-  pub product-small : (hub : ℤ) (tier : ℕ) → natAbs hub ≤ mostHubPrice
-      → natAbs ((pos most *ℤ hub) *ℤ pos (scaledMultiplier terms tier)) ≤ mostUpward * mostHubPrice * mostMultiplier
-  product-small hub tier h =
+-- M × P × m × (1 + d/100), and S
+module _ (terms : Terms) (kept : TermsKept terms) (most : ℕ) (most-small : most ≤ mostUpward) (hub : ℤ) (hub-small : natAbs hub ≤ mostHubPrice) (tier : ℕ) where
+  pub product-small : natAbs ((pos most *ℤ hub) *ℤ pos (scaledMultiplier terms tier)) ≤ mostSurcharge
+  product-small =
       abs-mul≤ (mostUpward * mostHubPrice) mostMultiplier (pos most *ℤ hub) (pos (scaledMultiplier terms tier))
-      (abs-mul≤ mostUpward mostHubPrice (pos most) hub most-small h) (multiplier-small terms kept tier)
+      (abs-mul≤ mostUpward mostHubPrice (pos most) hub most-small hub-small) (multiplier-small terms kept tier)
 
-  surcharge-small : (hub : ℤ) (tier : ℕ) → natAbs hub ≤ mostHubPrice → natAbs (surchargeOf terms most hub tier) ≤ mostUpward * mostHubPrice * mostMultiplier
+  pub surcharge-small : natAbs (surchargeOf terms most hub tier) ≤ mostSurcharge
   unfolding surchargeOf
-  surcharge-small hub tier h = le-trans (abs-at-least _) (product-small hub tier h)
+  surcharge-small = le-trans (abs-at-least _) product-small
 
-  credit-small : (tier : ℕ) (price : ℤ) → natAbs price ≤ mostMarketPrice → natAbs (creditOf most tier price) ≤ mostUpward * mostMarketPrice * 4
+pub surcharge-in-cents-small : (s : ℤ) (dayTier : ℕ) → natAbs s ≤ mostSurcharge → natAbs (surchargeInCents s dayTier) ≤ mostOnPeakAmount
+unfolding surchargeInCents
+surcharge-in-cents-small s dayTier h =
+    pick mostOnPeakAmount (leb dayTier 1) _ _ zero-le (round-within mostOnPeakAmount s 400000 (omega arith) (omega arith))
+
+module _ (most : ℕ) (most-small : most ≤ mostUpward) (dayTier tier : ℕ) (price : ℤ) (price-small : natAbs price ≤ mostMarketPrice) where
+  credit-small : natAbs (creditOf most tier price) ≤ mostUpward * mostMarketPrice * 4
   unfolding creditOf
-  credit-small tier price h =
-      pick (mostUpward * mostMarketPrice * 4) (eqb tier 0) _ _ (at-market-small 4 most price (pos 4) most-small h (omega arith)) zero-le
+  credit-small =
+      pick (mostUpward * mostMarketPrice * 4) (eqb tier 0) _ _ (at-market-small 4 most price (pos 4) most-small price-small (omega arith)) zero-le
 
-  -- S less the credit
-  pub difference-small : (hub : ℤ) (dayTier tier : ℕ) (price : ℤ) → natAbs hub ≤ mostHubPrice → natAbs price ≤ mostMarketPrice
-      → natAbs (surchargeOf terms most hub dayTier -ℤ creditOf most tier price) ≤ mostOnPeakAmount * 400000
-  difference-small hub dayTier tier price h p =
-      omega (arith, abs-minus (surchargeOf terms most hub dayTier) (creditOf most tier price), surcharge-small hub dayTier h, credit-small tier price p)
-
-  pub on-peak-small : (hub : ℤ) (dayTier tier : ℕ) (price : ℤ) → natAbs hub ≤ mostHubPrice → natAbs price ≤ mostMarketPrice
-      → natAbs (onPeakOf terms most hub dayTier tier price) ≤ mostOnPeakAmount
-  unfolding onPeakOf
-  on-peak-small hub dayTier tier price h p =
-      let z = surchargeOf terms most hub dayTier -ℤ creditOf most tier price in
-      pick mostOnPeakAmount (leb dayTier 1) _ _ zero-le
-      (round-within mostOnPeakAmount (atLeastZero z) 400000 (omega arith) (omega (arith, abs-at-least z, difference-small hub dayTier tier price h p)))
-
-  -- S and the credit, in cents
-  pub surcharge-in-cents-small : (hub : ℤ) (dayTier : ℕ) → natAbs hub ≤ mostHubPrice → natAbs (surchargeInCents terms most hub dayTier) ≤ mostOnPeakAmount
-  unfolding surchargeInCents
-  surcharge-in-cents-small hub dayTier h =
-      pick mostOnPeakAmount (leb dayTier 1) _ _ zero-le (round-within mostOnPeakAmount _ 400000 (omega arith) (omega (arith, surcharge-small hub dayTier h)))
-
-  pub credit-in-cents-small : (dayTier tier : ℕ) (price : ℤ) → natAbs price ≤ mostMarketPrice → natAbs (creditInCents most dayTier tier price) ≤ mostOnPeakAmount
+  pub credit-in-cents-small : natAbs (creditInCents most dayTier tier price) ≤ mostOnPeakAmount
   unfolding creditInCents
-  credit-in-cents-small dayTier tier price p =
-      pick mostOnPeakAmount (leb dayTier 1) _ _ zero-le (round-within mostOnPeakAmount _ 400000 (omega arith) (omega (arith, credit-small tier price p)))
+  credit-in-cents-small =
+      pick mostOnPeakAmount (leb dayTier 1) _ _ zero-le (round-within mostOnPeakAmount _ 400000 (omega arith) (omega (arith, credit-small)))
+
+  module _ (s : ℤ) (s-small : natAbs s ≤ mostSurcharge) where
+    -- S less the credit
+    pub difference-small : natAbs (s -ℤ creditOf most tier price) ≤ mostOnPeakAmount * 400000
+    difference-small = omega (arith, abs-minus s (creditOf most tier price), credit-small)
+
+    pub on-peak-small : natAbs (onPeakOf s most dayTier tier price) ≤ mostOnPeakAmount
+    unfolding onPeakOf
+    on-peak-small =
+        let z = s -ℤ creditOf most tier price in
+        pick mostOnPeakAmount (leb dayTier 1) _ _ zero-le
+        (round-within mostOnPeakAmount (atLeastZero z) 400000 (omega arith) (omega (arith, abs-at-least z, difference-small)))
 
 pub downward-small : (terms : Terms) (downward : ℕ) (mec : ℤ) → downward ≤ mostDownward → natAbs mec ≤ mostMarketPrice
     → natAbs (downwardOf terms downward mec) ≤ mostDownwardAmount

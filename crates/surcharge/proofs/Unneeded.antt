@@ -9,19 +9,19 @@ use borrow.Author.Tests.{leb-false, le-leb}
 use Rattle.surcharge.specs.declared.Terms.{Terms}
 use Rattle.surcharge.specs.Surcharge.{creditOf, onPeakOf, creditInCents, offPeakOf, needsPrice}
 
-on-by : (terms : Terms) (most : ℕ) (hub : ℤ) (day tier : ℕ) (p q : ℤ) (t u : Bool) → leb day 1 ≡ t → eqb tier 0 ≡ u → (leb 2 day && u)
+on-by : (s : ℤ) (most day tier : ℕ) (p q : ℤ) (t u : Bool) → leb day 1 ≡ t → eqb tier 0 ≡ u → (leb 2 day && u)
     ≡ false
-    → (onPeakOf terms most hub day tier p ≡ onPeakOf terms most hub day tier q) × (creditInCents most day tier p ≡ creditInCents most day tier q)
+    → (onPeakOf s most day tier p ≡ onPeakOf s most day tier q) × (creditInCents most day tier p ≡ creditInCents most day tier q)
 unfolding onPeakOf creditOf creditInCents
-on-by terms most hub day tier p q true u e f h = rw e (refl, refl)
-on-by terms most hub day tier p q false true e f h =
+on-by s most day tier p q true u e f h = rw e (refl, refl)
+on-by s most day tier p q false true e f h =
     let z : leb 2 day ≡ true = le-leb 2 day (leb-false day 1 e) in
     let n : _≡_ {A = ℕ} 0 1 = cc in absurd (omega arith)
-on-by terms most hub day tier p q false false e f h = rw f (refl, refl)
+on-by s most day tier p q false false e f h = rw f (refl, refl)
 
-pub on-unneeded : (terms : Terms) (most : ℕ) (hub : ℤ) (day tier : ℕ) (p q : ℤ) → needsPrice 1 true day tier ≡ false
-    → (onPeakOf terms most hub day tier p ≡ onPeakOf terms most hub day tier q) × (creditInCents most day tier p ≡ creditInCents most day tier q)
-on-unneeded terms most hub day tier p q h = on-by terms most hub day tier p q (leb day 1) (eqb tier 0) refl refl h
+pub on-unneeded : (s : ℤ) (most day tier : ℕ) (p q : ℤ) → needsPrice 1 true day tier ≡ false
+    → (onPeakOf s most day tier p ≡ onPeakOf s most day tier q) × (creditInCents most day tier p ≡ creditInCents most day tier q)
+on-unneeded s most day tier p q h = on-by s most day tier p q (leb day 1) (eqb tier 0) refl refl h
 
 pub off-unneeded : (terms : Terms) (upward tier : ℕ) (p q : ℤ) → leb 2 tier ≡ false → offPeakOf terms upward tier p ≡ offPeakOf terms upward tier q
 unfolding offPeakOf

@@ -7,6 +7,7 @@ use lib.IntN.{ℤ, pos, _-ℤ_, _*ℤ_}
 use lib.Signed.{ltZ}
 use Rattle.exact.specs.Round.{roundDiv}
 use Rattle.exact.specs.Floor.{atLeastZero, atMostZero}
+use Rattle.surcharge.specs.declared.Day.{Day}
 use Rattle.surcharge.specs.declared.Terms.{Terms}
 
 -- "bits 6 to 21, hours ending 7 to 22"; h from 0 is the hour ending h + 1
@@ -52,14 +53,13 @@ surchargeOf terms most hub dayTier = atLeastZero ((pos most *ℤ hub) *ℤ pos (
 unfoldable pub creditOf : (most tier : ℕ) (price : ℤ) → ℤ
 creditOf most tier price = cond (eqb tier 0) ((pos most *ℤ price) *ℤ pos 4) (pos 0)
 
--- "0 if day tier <= 1. Otherwise .. R(max(0, S - credit))"
-unfoldable pub onPeakOf : (terms : Terms) (most : ℕ) (hub : ℤ) (dayTier tier : ℕ) (price : ℤ) → ℤ
-onPeakOf terms most hub dayTier tier price =
-    cond (leb dayTier 1) (pos 0) (roundDiv (atLeastZero (surchargeOf terms most hub dayTier -ℤ creditOf most tier price)) 400000)
+-- "0 if day tier <= 1. Otherwise .. R(max(0, S - credit))"; `s` is S
+unfoldable pub onPeakOf : (s : ℤ) (most dayTier tier : ℕ) (price : ℤ) → ℤ
+onPeakOf s most dayTier tier price = cond (leb dayTier 1) (pos 0) (roundDiv (atLeastZero (s -ℤ creditOf most tier price)) 400000)
 
 -- "S and the credit, each rounded by R on its own; both are 0 .. on a day of tier 0 or 1"; the credit is not cut to S
-unfoldable pub surchargeInCents : (terms : Terms) (most : ℕ) (hub : ℤ) (dayTier : ℕ) → ℤ
-surchargeInCents terms most hub dayTier = cond (leb dayTier 1) (pos 0) (roundDiv (surchargeOf terms most hub dayTier) 400000)
+unfoldable pub surchargeInCents : (s : ℤ) (dayTier : ℕ) → ℤ
+surchargeInCents s dayTier = cond (leb dayTier 1) (pos 0) (roundDiv s 400000)
 
 unfoldable pub creditInCents : (most dayTier tier : ℕ) (price : ℤ) → ℤ
 creditInCents most dayTier tier price = cond (leb dayTier 1) (pos 0) (roundDiv (creditOf most tier price) 400000)
@@ -75,3 +75,13 @@ downwardOf terms downward mec = cond (leb downward downwardFloor) (pos 0) (round
 -- "needed in an off-peak hour of tier 2 or 3 and in a tier 0 peak hour of a day of tier 2 or 3, flag 1 only"
 abbrev pub needsPrice : (flag : ℕ) → Bool → (dayTier tier : ℕ) → Bool
 needsPrice flag peak dayTier tier = eqb flag 1 && cond peak (leb 2 dayTier && eqb tier 0) (leb 2 tier)
+
+-- the facts of a day as the struct of the code
+unfoldable pub dayOf : (terms : Terms) (dayTier most : ℕ) (hub : ℤ) → Day
+dayOf terms dayTier most hub =
+    record {
+      tier = dayTier;
+      most = record { 0 = most };
+      surcharge = record { 0 = surchargeOf terms most hub dayTier };
+      shown = record { 0 = surchargeInCents (surchargeOf terms most hub dayTier) dayTier };
+    }

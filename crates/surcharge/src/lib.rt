@@ -7,9 +7,9 @@ use units::Quantity;
 ghost use mathlib.Core.Path.{_≡_};
 ghost use Prim.Native.Nat.{_≤_};
 ghost use lib.IntN.{natAbs};
-ghost use Rattle.limits.specs.Ranges.{mostMarketPrice, mostUpward};
+ghost use Rattle.limits.specs.Ranges.{mostMarketPrice, mostHubPrice, mostUpward};
 ghost use Rattle.surcharge.specs.Surcharge.{tierOf, peakHour, quarters, scaledMultiplier, surchargeOf, creditOf, onPeakOf, offPeakOf, downwardOf};
-ghost use Rattle.surcharge.specs.Surcharge.{surchargeInCents, creditInCents, greaterPrice, needsPrice};
+ghost use Rattle.surcharge.specs.Surcharge.{surchargeInCents, creditInCents, greaterPrice, needsPrice, dayOf};
 ghost use Rattle.surcharge.specs.Ranges.{TermsKept, DayRanged};
 
 // Up to 10 MW a shortage is of tier 1.
@@ -24,17 +24,17 @@ pub struct Terms {
     pub days: u32,
 }
 
-// The facts of an area's day: day tier, M, the greater hub price P.
+// The facts of an area's day: day tier, M, and S, which every peak hour has: exact, and as it is shown.
 pub struct Day {
     pub tier: u32,
     pub most: Quantity,
-    pub hub: HubPrice,
+    pub surcharge: CentsOver400000,
+    pub shown: Cents,
 }
 
-// What a peak hour comes to, and the S and the credit that it comes from: each rounded once, from what is exact.
+// What a peak hour comes to, and the credit that was taken off: each rounded once, from what is exact.
 pub struct OnPeak {
     pub amount: Cents,
-    pub surcharge: Cents,
     pub credit: Cents,
 }
 
@@ -132,14 +132,38 @@ pub fn off_peak(terms: Terms, upward: Quantity, tier: u32, price: MarketPrice) -
 }
 
 // S, over 400,000.
-fn surcharge(terms: Terms, day: Day) -> CentsOver400000
-    requires { ⌜ (TermsKept terms) × (DayRanged day) ⌝ }
-    ensures { λ r. ⌜ r .0 ≡ surchargeOf terms (day .most .0) (day .hub .0) (day .tier) ⌝ }
+fn surcharge(terms: Terms, tier: u32, most: Quantity, hub: HubPrice) -> CentsOver400000
+    requires { ⌜ (TermsKept terms) × ((most .0 ≤ mostUpward) × (natAbs (hub .0) ≤ mostHubPrice)) ⌝ }
+    ensures { λ r. ⌜ r .0 ≡ surchargeOf terms (most .0) (hub .0) tier ⌝ }
 {
-    let most = day.most;
-    most.at_hub_price(day.hub)
-        .scaled(scaled_multiplier(terms, day.tier))
+    most.at_hub_price(hub)
+        .scaled(scaled_multiplier(terms, tier))
         .at_least_zero()
+}
+
+// S as it is shown on a day of this tier.
+fn surcharge_in_cents(surcharge: CentsOver400000, tier: u32) -> Cents
+    ensures { λ r. ⌜ r .0 ≡ surchargeInCents (surcharge .0) tier ⌝ }
+{
+    if tier <= 1 {
+        return Cents(0);
+    }
+    surcharge.rounded()
+}
+
+// The facts of a day with this tier, M and P.
+pub fn day_of(terms: Terms, tier: u32, most: Quantity, hub: HubPrice) -> Day
+    requires { ⌜ (TermsKept terms) × ((most .0 ≤ mostUpward) × (natAbs (hub .0) ≤ mostHubPrice)) ⌝ }
+    ensures { λ r. ⌜ r ≡ dayOf terms tier (most .0) (hub .0) ⌝ }
+{
+    let surcharge = surcharge(terms, tier, most, hub);
+    let shown = surcharge_in_cents(surcharge, tier);
+    Day {
+        tier,
+        most,
+        surcharge,
+        shown,
+    }
 }
 
 // The credit of a peak hour, over 400,000.
@@ -153,25 +177,21 @@ fn credit(most: Quantity, tier: u32, price: MarketPrice) -> CentsOver400000
     CentsOver400000(0)
 }
 
-pub fn on_peak(terms: Terms, day: Day, tier: u32, price: MarketPrice) -> OnPeak
-    requires { ⌜ (TermsKept terms) × (DayRanged day) ⌝ }
-    requires { ⌜ natAbs (price .0) ≤ mostMarketPrice ⌝ }
-    ensures { λ r. ⌜ (r .amount .0 ≡ onPeakOf terms (day .most .0) (day .hub .0) (day .tier) tier (price .0))
-        × (r .surcharge .0 ≡ surchargeInCents terms (day .most .0) (day .hub .0) (day .tier))
+pub fn on_peak(day: Day, tier: u32, price: MarketPrice) -> OnPeak
+    requires { ⌜ (DayRanged day) × (natAbs (price .0) ≤ mostMarketPrice) ⌝ }
+    ensures { λ r. ⌜ (r .amount .0 ≡ onPeakOf (day .surcharge .0) (day .most .0) (day .tier) tier (price .0))
         × (r .credit .0 ≡ creditInCents (day .most .0) (day .tier) tier (price .0)) ⌝ }
 {
     if day.tier <= 1 {
         return OnPeak {
             amount: Cents(0),
-            surcharge: Cents(0),
             credit: Cents(0),
         };
     }
-    let surcharge = surcharge(terms, day);
+    let surcharge = day.surcharge;
     let credit = credit(day.most, tier, price);
     OnPeak {
         amount: surcharge.minus(credit).at_least_zero().rounded(),
-        surcharge: surcharge.rounded(),
         credit: credit.rounded(),
     }
 }

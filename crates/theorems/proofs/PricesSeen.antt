@@ -49,7 +49,7 @@ module _ (terms : Terms) (body : List ℕ) (h : ℕ) where
           → (flag && cond peak (leb 2 (dayTier terms body) && eqb (tierAt body h) 0) (leb 2 (tierAt body h))) ≡ false
           → (onPeakAtPrice terms body h price ≡ onPeakAmount terms body h) × (offPeakAtPrice terms body h price ≡ offPeakAmount terms body h)
           × (creditAtPrice terms body h price ≡ creditAt terms body h)
-      by true true e f q = let same = on-unneeded terms _ _ (dayTier terms body) (tierAt body h) _ _ q in rw (e, f) (same .0, refl, same .1)
+      by true true e f q = let same = on-unneeded _ _ (dayTier terms body) (tierAt body h) _ _ q in rw (e, f) (same .0, refl, same .1)
       by true false e f q = rw (e, f) (refl, off-unneeded terms _ (tierAt body h) _ _ q, refl)
       by false peak e f q = rw e (refl, refl, refl)
 

@@ -16,8 +16,8 @@ use Rattle.contents.specs.File.{areasOf, bodyAt}
 use Rattle.surcharge.specs.declared.Terms.{Terms}
 use Rattle.surcharge.specs.Surcharge.{peakHour}
 use Rattle.surcharge.proofs.InCents.{on-peak-near, none-in-cents, no-credit-in-cents}
-use Rattle.amounts.specs.Amounts.{tierAt, dayTier, dayUpward, hubPrice, hourPrice, onPeakAtPrice, creditAtPrice, onPeakAmount, surchargeHour, surchargeAt}
-use Rattle.amounts.specs.Amounts.{creditAt}
+use Rattle.amounts.specs.Amounts.{tierAt, dayTier, dayUpward, hubPrice, daySurcharge, hourPrice, onPeakAtPrice, creditAtPrice, onPeakAmount}
+use Rattle.amounts.specs.Amounts.{surchargeHour, surchargeAt, creditAt}
 use Rattle.settlement.specs.Settlement.{termsBy, ownDays, settleBy}
 use Rattle.settlement.specs.Shown.{statementLeftBy}
 use Rattle.settlement.proofs.Shown.{on-peak-shown, surcharge-shown, credit-shown}
@@ -30,7 +30,7 @@ never false = refl
 -- over the definitions
 module _ (terms : Terms) (body : List ℕ) (h : ℕ) where
   near : natAbs (onPeakAmount terms body h -ℤ atLeastZero (surchargeAt terms body h -ℤ creditAt terms body h)) ≤ 1
-  unfolding onPeakAtPrice creditAtPrice onPeakAmount surchargeAt creditAt atLeastZero
+  unfolding daySurcharge onPeakAtPrice creditAtPrice onPeakAmount surchargeAt creditAt atLeastZero
   near = by (surchargeHour terms body h) refl
     where
       by : (t : Bool) → surchargeHour terms body h ≡ t → natAbs (onPeakAmount terms body h -ℤ atLeastZero (surchargeAt terms body h -ℤ creditAt terms body h)) ≤ 1
@@ -48,7 +48,7 @@ module _ (terms : Terms) (body : List ℕ) (h : ℕ) where
   nothing (inr (inl p)) = by (surchargeHour terms body h) refl
     where
       by : (t : Bool) → surchargeHour terms body h ≡ t → (surchargeAt terms body h ≡ pos 0) × (creditAt terms body h ≡ pos 0)
-      by true e = rw e (none-in-cents terms (dayUpward terms body) (hubPrice body) (dayTier terms body) (tierAt body h) (hourPrice body h) p)
+      by true e = rw e (none-in-cents (daySurcharge terms body) (dayUpward terms body) (dayTier terms body) (tierAt body h) (hourPrice body h) p)
       by false e = nothing-shown e
   nothing (inr (inr e)) = nothing-shown (rw (ne-eqb (flagOf body) 1 e))
 
@@ -57,7 +57,7 @@ module _ (terms : Terms) (body : List ℕ) (h : ℕ) where
   failed p = by (surchargeHour terms body h) refl
     where
       by : (t : Bool) → surchargeHour terms body h ≡ t → creditAt terms body h ≡ pos 0
-      by true e = rw e (no-credit-in-cents terms (dayUpward terms body) (hubPrice body) (dayTier terms body) (tierAt body h) (hourPrice body h) p)
+      by true e = rw e (no-credit-in-cents (dayUpward terms body) (dayTier terms body) (tierAt body h) (hourPrice body h) p)
       by false e = rw e
 
 -- ---- under any d

@@ -13,7 +13,7 @@ use Rattle.amounts.specs.Amounts.{downwardFrom, upwardAt, tierAt, hourFa
 use Rattle.amounts.specs.Ranges.{HourRanged, PairsRanged}
 use Rattle.amounts.proofs.Hours.{hour-upward, hour-tier, hour-ranged, pairs-ranged}
 use Rattle.amounts.proofs.Quantities.{upward-small}
-use Rattle.amounts.proofs.HourAmounts.{price-if-small, day-ranged, on-is, surcharge-is, off-is, same, without-flag, in-peak, outside-peak}
+use Rattle.amounts.proofs.HourAmounts.{price-if-small, day-ranged, on-is, shown-is, off-is, same, without-flag, in-peak, outside-peak}
 use Rattle.amounts.proofs.hour_amounts.Statement.{statement}
 use Rattle.amounts.proofs.hour_amounts.Tie as tie
 
@@ -103,7 +103,7 @@ on-peak-requires : tie.Need-on-peak-requires
 on-peak-requires c κs =
     let s = to-start (c .before) in
     let k = s .pre in
-    ((k .kept, day-ranged (s .args .terms) (s .args .day) (now (s .args .body)) (k .facts) (k .sound)), price-small (c .before))
+    (day-ranged (s .args .terms) (s .args .day) (now (s .args .body)) (k .facts) (k .kept) (k .sound), price-small (c .before))
 
 returns-2 : tie.Need-returns-2
 returns-2 c =
@@ -118,11 +118,11 @@ returns-2 c =
     let is = to-start p .pre .facts in
     let at-price = on-is (a .terms) d b is (a .h) _ (asked p ∙ ap (λ t. needsPrice 1 t (d .tier) (tierAt b (a .h))) (o .before .if2 .taken)) in
     same
-    (e .0 ∙ ap₂ (onPeakOf (a .terms) (d .most .0) (d .hub .0) (d .tier)) (tier-is f) (price-is p) ∙ at-price .0)
+    (e .0 ∙ ap₂ (onPeakOf (d .surcharge .0) (d .most .0) (d .tier)) (tier-is f) (price-is p) ∙ at-price .0)
     refl
     (down-is (f .before))
-    (e .1 ∙ surcharge-is (a .terms) d b is)
-    (e .2 ∙ ap₂ (creditInCents (d .most .0) (d .tier)) (tier-is f) (price-is p) ∙ at-price .1)
+    (shown-is (a .terms) d b is)
+    (e .1 ∙ ap₂ (creditInCents (d .most .0) (d .tier)) (tier-is f) (price-is p) ∙ at-price .1)
     ∙ in-peak (a .terms) b (a .h) (flag-is (f .before .before)) peak
 
 off-peak-requires : tie.Need-off-peak-requires

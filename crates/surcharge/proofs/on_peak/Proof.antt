@@ -1,5 +1,5 @@
 use borrow.Author.Needs.{needs}
-use mathlib.Core.Path.{_≡_, refl, ap, ap₂, _∙_}
+use mathlib.Core.Path.{_≡_, refl, ap, _∙_}
 use native.Mathlib.Omega.{arith}
 use borrow.Author.Tests.{le-leb, lt-leb}
 use lib.IntN.{_-ℤ_}
@@ -7,50 +7,45 @@ use mir.Syntax.{w64}
 use Rattle.exact.specs.Round.{roundDiv}
 use Rattle.exact.specs.Floor.{atLeastZero}
 use Rattle.exact.proofs.Machine.{within}
-use Rattle.surcharge.specs.Surcharge.{surchargeOf, creditOf, onPeakOf, surchargeInCents, creditInCents}
+use Rattle.surcharge.specs.Surcharge.{creditOf, onPeakOf, creditInCents}
 use Rattle.surcharge.proofs.Sizes.{difference-small}
 use Rattle.surcharge.proofs.Rounded.{rounded-once}
 use Rattle.surcharge.proofs.on_peak.Statement.{statement}
 use Rattle.surcharge.proofs.on_peak.Tie as tie
 
+abbrev start : tie.After-credit → tie.Start
+start c = c .before .before .before .before
+
 -- S less the credit
 value : (c : tie.After-credit) →
-    let s = c .before .before .before .before .args in
-    let d = s .day in
-    c .before .surcharge .result .0 -ℤ c .credit .result .0
-    ≡ surchargeOf (s .terms) (d .most .0) (d .hub .0) (d .tier) -ℤ creditOf (d .most .0) (s .tier) (s .price .0)
-value c = ap₂ _-ℤ_ (c .before .surcharge .ensures) (c .credit .ensures)
+    let s = start c .args in
+    s .day .surcharge .0 -ℤ c .credit .result .0 ≡ s .day .surcharge .0 -ℤ creditOf (s .day .most .0) (s .tier) (s .price .0)
+value c = ap (λ z. start c .args .day .surcharge .0 -ℤ z) (c .credit .ensures)
 
 returns : tie.Need-returns
-unfolding onPeakOf surchargeInCents creditInCents
-returns c = simp (le-leb _ _ (c .if1 .taken)) (refl, refl, refl)
+unfolding onPeakOf creditInCents
+returns c = simp (le-leb _ _ (c .if1 .taken)) (refl, refl)
 
 minus-requires : tie.Need-minus-requires
 minus-requires c κs =
-    let s = c .before .before .before .before in
+    let s = start c in
     let a = s .args in
     let d = a .day in
-    let k = s .pre .0 in
+    let k = s .pre in
     rw (value c)
-    (within w64 _ (omega (
-      arith,
-      difference-small (a .terms) (k .0) (d .most .0) (k .1 .most) (d .hub .0) (d .tier) (a .tier) (a .price .0) (k .1 .hub)
-          (s .pre .1),
-    )))
+    (within w64 _ (omega (arith, difference-small (d .most .0) (k .0 .most) (d .tier) (a .tier) (a .price .0) (k .1) (d .surcharge .0) (k .0 .surcharge))))
 
 returns-2 : tie.Need-returns-2
-unfolding onPeakOf surchargeInCents creditInCents
+unfolding onPeakOf creditInCents
 returns-2 c =
-    let r = c .before .before in
+    let r = c .before in
     let m = r .before .before in
     let k = m .before in
     simp (lt-leb _ _ (k .before .before .if1 .left)) (
       rounded-once atLeastZero _ (r .rounded .ensures) (r .before .at-least-zero .ensures) (m .minus .ensures ∙ value k),
-      c .before .rounded2 .ensures ∙ ap (λ z. roundDiv z 400000) (k .before .surcharge .ensures),
-      c .rounded3 .ensures ∙ ap (λ z. roundDiv z 400000) (k .credit .ensures),
+      c .rounded2 .ensures ∙ ap (λ z. roundDiv z 400000) (k .credit .ensures),
     )
 
 pub on-peak-spec : {M : Type 1} → statement M
 on-peak-spec =
-    tie.close (tie.spec returns (λ c κs. search needs) (λ c κs. search needs) minus-requires (λ c κs. search needs) (λ c κs. search needs)
-    (λ c κs. search needs) (λ c κs. search needs) returns-2)
+    tie.close (tie.spec returns (λ c κs. search needs) minus-requires (λ c κs. search needs) (λ c κs. search needs) (λ c κs. search needs) returns-2)

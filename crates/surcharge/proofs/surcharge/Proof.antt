@@ -12,17 +12,17 @@ use Rattle.surcharge.proofs.surcharge.Tie as tie
 
 -- M × P × m × (1 + d/100)
 value : (c : tie.After-scaled-multiplier) →
-    let s = c .before .before .before .args in
-    let d = s .day in
+    let s = c .before .before .args in
     (c .before .at-hub-price .result .0) *ℤ pos (c .scaled-multiplier .result)
-    ≡ (pos (d .most .0) *ℤ d .hub .0) *ℤ pos (scaledMultiplier (s .terms) (d .tier))
+    ≡ (pos (s .most .0) *ℤ s .hub .0) *ℤ pos (scaledMultiplier (s .terms) (s .tier))
 value c = ap₂ (λ z m. z *ℤ pos m) (c .before .at-hub-price .ensures) (c .scaled-multiplier .ensures)
 
 scaled-requires : tie.Need-scaled-requires
 scaled-requires c κs =
-    let s = c .before .before .before in
-    let d = s .args .day in
-    let p = product-small (s .args .terms) (s .pre .0) (d .most .0) (s .pre .1 .most) (d .hub .0) (d .tier) (s .pre .1 .hub) in
+    let s = c .before .before in
+    let a = s .args in
+    let k = s .pre in
+    let p = product-small (a .terms) (k .0) (a .most .0) (k .1 .0) (a .hub .0) (k .1 .1) (a .tier) in
     rw (value c) (within w64 _ (omega arith))
 
 returns : tie.Need-returns

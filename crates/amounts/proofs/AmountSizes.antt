@@ -102,37 +102,19 @@ module _ (body : List ℕ) (sound : Sound plainPoints body) (h : ℕ) (below : h
 
 -- the amounts that an hour was found to have
 module _ (terms : Terms) (body : List ℕ) (h : ℕ) (amounts : Amounts) (is : amounts ≡ amountsOf terms body h) where
-  on-is : amounts .on .0 ≡ onPeakAmount terms body h
-  unfolding amountsOf
-  on-is = ap (λ a. a .on .0) is
-
-  off-is : amounts .off .0 ≡ offPeakAmount terms body h
-  unfolding amountsOf
-  off-is = ap (λ a. a .off .0) is
-
-  down-is : amounts .down .0 ≡ downwardAmount terms body h
-  unfolding amountsOf
-  down-is = ap (λ a. a .down .0) is
-
-  surcharge-is : amounts .surcharge .0 ≡ surchargeAt terms body h
-  unfolding amountsOf
-  surcharge-is = ap (λ a. a .surcharge .0) is
-
-  credit-is : amounts .credit .0 ≡ creditAt terms body h
-  unfolding amountsOf
-  credit-is = ap (λ a. a .credit .0) is
-
   -- A of them is the hour's
   pub amount-is : (a : ℤ) → a ≡ (amounts .on .0 +ℤ amounts .off .0) +ℤ amounts .down .0 → a ≡ amountAt terms body h
-  unfolding amountAt
-  amount-is a e = e ∙ rw (on-is, off-is, down-is)
+  unfolding amountsOf amountAt
+  amount-is a e = e ∙ ap (λ m. (m .on .0 +ℤ m .off .0) +ℤ m .down .0) is
 
   pub amounts-ranged : Sound plainPoints body → h < dayHours → TermsKept terms → AmountsRanged amounts
+  unfolding amountsOf
   amounts-ranged sound below kept =
-      record {
-        on = rw on-is (omega (arith, on-small body sound h below terms kept));
-        off = rw off-is (omega (arith, off-small body sound h below terms kept));
-        down = rw down-is (omega (arith, down-small body sound h below terms));
-        surcharge = rw surcharge-is (omega (arith, shown-small body sound h below terms kept));
-        credit = rw credit-is (omega (arith, credit-small body sound h below terms kept));
-      }
+      rw is
+      (record {
+        on = omega (arith, on-small body sound h below terms kept);
+        off = omega (arith, off-small body sound h below terms kept);
+        down = omega (arith, down-small body sound h below terms);
+        surcharge = omega (arith, shown-small body sound h below terms kept);
+        credit = omega (arith, credit-small body sound h below terms kept);
+      })

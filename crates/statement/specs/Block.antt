@@ -22,10 +22,10 @@ amountsShown = 5
 abbrev pub shownOf : Amounts → List ℤ
 shownOf amounts = amounts .on .0 ∷ amounts .off .0 ∷ amounts .down .0 ∷ amounts .surcharge .0 ∷ amounts .credit .0 ∷ []
 
+-- "The hour becomes 5 + K numbers"
 abbrev pub hourNumbers : ℕ → ℕ
 hourNumbers coordinators = amountsShown + coordinators
 
--- 24(5 + K)
 abbrev pub areaNumbers : ℕ → ℕ
 areaNumbers coordinators = dayHours * hourNumbers coordinators
 

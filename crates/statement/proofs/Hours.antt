@@ -1,4 +1,4 @@
--- The block of an hour as it is written, and how long it is.
+-- How long the block of an hour is, and that of the first hours together.
 use Prim.Native.Nat.{ℕ, zero, suc, _+_, _*_, _≤_, _<_}
 use mathlib.Core.List.{List, _++_}
 use mathlib.Core.Path.{_≡_, sym, _∙_}

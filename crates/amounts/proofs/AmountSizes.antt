@@ -59,7 +59,7 @@ module _ (body : List ℕ) (sound : Sound plainPoints body) (h : ℕ) (below : h
       s-small = surcharge-small terms kept _ (most-small body sound terms) _ (hub-small body sound) (dayTier terms body)
 
       on-of : natAbs (onPeakOf (daySurcharge terms body) (dayUpward terms body) (dayTier terms body) (tierAt body h) (hourPrice body h)) ≤ mostOnPeakAmount
-      on-of = on-peak-small _ (most-small body sound terms) (dayTier terms body) (tierAt body h) _ price-small _ s-small
+      on-of = on-peak-small _ (most-small body sound terms) (tierAt body h) _ price-small _ s-small (dayTier terms body)
 
       on-small : natAbs (onPeakAmount terms body h) ≤ mostOnPeakAmount
       unfolding onPeakAtPrice onPeakAmount
@@ -75,7 +75,7 @@ module _ (body : List ℕ) (sound : Sound plainPoints body) (h : ℕ) (below : h
       unfolding creditAtPrice creditAt
       credit-small =
           where-made mostOnPeakAmount (surchargeHour terms body h) _
-          (credit-in-cents-small _ (most-small body sound terms) (dayTier terms body) (tierAt body h) _ price-small)
+          (credit-in-cents-small _ (most-small body sound terms) (tierAt body h) _ price-small (dayTier terms body))
 
       off-of : natAbs (offPeakOf terms (upwardAt body h) (tierAt body h) (hourPrice body h)) ≤ mostOffPeakAmount
       off-of = off-peak-small terms kept _ (Q.upward-small body (hourAt body h) (hour-ranged body sound h below)) (tierAt body h) _ price-small

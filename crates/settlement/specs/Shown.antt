@@ -7,15 +7,11 @@ use lib.ListN.{length, getD, take, drop}
 use Rattle.body.specs.Layout.{coordinatorsOf}
 use Rattle.contents.specs.File.{bodyAt}
 use Rattle.statement.specs.Block.{amountsShown, hourNumbers}
-use Rattle.settlement.specs.Settlement.{neededTo, settleBy, afterBy, ownDays}
+use Rattle.settlement.specs.Settlement.{neededTo, settleBy, afterBy}
 
 -- the statement that settlement under d leaves of the one that was lent
 abbrev pub statementLeftBy : (ℕ → List ℕ → ℕ) → List ℕ → List ℤ → List ℤ
 statementLeftBy d file statement = afterBy d (settleBy d file (length statement)) file statement
-
--- the one that `settle` leaves
-abbrev pub statementLeft : List ℕ → List ℤ → List ℤ
-statementLeft file statement = statementLeftBy ownDays file statement
 
 module _ (file : List ℕ) (k h : ℕ) where
   -- the first number of hour h of area k: behind the numbers of the areas before it, and of h hours

@@ -60,31 +60,31 @@ module _ (terms : Terms) (kept : TermsKept terms) where
         (round-within mostOffPeakAmount _ 40000000 (omega arith)
         (omega (arith, abs-at-least ((pos upward *ℤ price) *ℤ pos (scaledMultiplier terms tier)), scaled-small)))
 
--- M × P × m × (1 + d/100), and S
-module _ (terms : Terms) (kept : TermsKept terms) (most : ℕ) (most-small : most ≤ mostUpward) (hub : ℤ) (hub-small : natAbs hub ≤ mostHubPrice) (tier : ℕ) where
-  pub product-small : natAbs ((pos most *ℤ hub) *ℤ pos (scaledMultiplier terms tier)) ≤ mostSurcharge
-  product-small =
-      abs-mul≤ (mostUpward * mostHubPrice) mostMultiplier (pos most *ℤ hub) (pos (scaledMultiplier terms tier))
-      (abs-mul≤ mostUpward mostHubPrice (pos most) hub most-small hub-small) (multiplier-small terms kept tier)
+  module _ (most : ℕ) (most-small : most ≤ mostUpward) (hub : ℤ) (hub-small : natAbs hub ≤ mostHubPrice) (tier : ℕ) where
+    -- M × P × m × (1 + d/100), and S
+    pub product-small : natAbs ((pos most *ℤ hub) *ℤ pos (scaledMultiplier terms tier)) ≤ mostSurcharge
+    product-small =
+        abs-mul≤ (mostUpward * mostHubPrice) mostMultiplier (pos most *ℤ hub) (pos (scaledMultiplier terms tier))
+        (abs-mul≤ mostUpward mostHubPrice (pos most) hub most-small hub-small) (multiplier-small tier)
 
-  pub surcharge-small : natAbs (surchargeOf terms most hub tier) ≤ mostSurcharge
-  unfolding surchargeOf
-  surcharge-small = le-trans (abs-at-least _) product-small
+    pub surcharge-small : natAbs (surchargeOf terms most hub tier) ≤ mostSurcharge
+    unfolding surchargeOf
+    surcharge-small = le-trans (abs-at-least _) product-small
 
 pub surcharge-in-cents-small : (s : ℤ) (dayTier : ℕ) → natAbs s ≤ mostSurcharge → natAbs (surchargeInCents s dayTier) ≤ mostOnPeakAmount
 unfolding surchargeInCents
 surcharge-in-cents-small s dayTier h =
     pick mostOnPeakAmount (leb dayTier 1) _ _ zero-le (round-within mostOnPeakAmount s 400000 (omega arith) (omega arith))
 
-module _ (most : ℕ) (most-small : most ≤ mostUpward) (dayTier tier : ℕ) (price : ℤ) (price-small : natAbs price ≤ mostMarketPrice) where
+module _ (most : ℕ) (most-small : most ≤ mostUpward) (tier : ℕ) (price : ℤ) (price-small : natAbs price ≤ mostMarketPrice) where
   credit-small : natAbs (creditOf most tier price) ≤ mostUpward * mostMarketPrice * 4
   unfolding creditOf
   credit-small =
       pick (mostUpward * mostMarketPrice * 4) (eqb tier 0) _ _ (at-market-small 4 most price (pos 4) most-small price-small (omega arith)) zero-le
 
-  pub credit-in-cents-small : natAbs (creditInCents most dayTier tier price) ≤ mostOnPeakAmount
+  pub credit-in-cents-small : (dayTier : ℕ) → natAbs (creditInCents most dayTier tier price) ≤ mostOnPeakAmount
   unfolding creditInCents
-  credit-in-cents-small =
+  credit-in-cents-small dayTier =
       pick mostOnPeakAmount (leb dayTier 1) _ _ zero-le (round-within mostOnPeakAmount _ 400000 (omega arith) (omega (arith, credit-small)))
 
   module _ (s : ℤ) (s-small : natAbs s ≤ mostSurcharge) where
@@ -92,9 +92,9 @@ module _ (most : ℕ) (most-small : most ≤ mostUpward) (dayTier tier : ℕ) (p
     pub difference-small : natAbs (s -ℤ creditOf most tier price) ≤ mostOnPeakAmount * 400000
     difference-small = omega (arith, abs-minus s (creditOf most tier price), credit-small)
 
-    pub on-peak-small : natAbs (onPeakOf s most dayTier tier price) ≤ mostOnPeakAmount
+    pub on-peak-small : (dayTier : ℕ) → natAbs (onPeakOf s most dayTier tier price) ≤ mostOnPeakAmount
     unfolding onPeakOf
-    on-peak-small =
+    on-peak-small dayTier =
         let z = s -ℤ creditOf most tier price in
         pick mostOnPeakAmount (leb dayTier 1) _ _ zero-le
         (round-within mostOnPeakAmount (atLeastZero z) 400000 (omega arith) (omega (arith, abs-at-least z, difference-small)))

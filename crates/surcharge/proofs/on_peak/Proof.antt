@@ -33,7 +33,7 @@ minus-requires c κs =
     let d = a .day in
     let k = s .pre in
     rw (value c)
-    (within w64 _ (omega (arith, difference-small (d .most .0) (k .0 .most) (d .tier) (a .tier) (a .price .0) (k .1) (d .surcharge .0) (k .0 .surcharge))))
+    (within w64 _ (omega (arith, difference-small (d .most .0) (k .0 .most) (a .tier) (a .price .0) (k .1) (d .surcharge .0) (k .0 .surcharge))))
 
 returns-2 : tie.Need-returns-2
 unfolding onPeakOf creditInCents

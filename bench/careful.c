@@ -13,6 +13,7 @@ typedef struct {
     int32_t hub;
     uint32_t tier;   /* of the day */
     uint32_t upward; /* M */
+    int64_t surcharge, shown; /* S over 400,000, and in cents */
 } area_t;
 
 typedef struct {
@@ -213,6 +214,12 @@ static inline int peak_hour(uint32_t peak, size_t h)
     return peak != 0 && 6 <= h && h <= 21;
 }
 
+/* m * (1 + d/100) for a tier, in four-hundredths. */
+static inline int64_t scaled_multiplier(const area_t *a, uint32_t tier)
+{
+    return (tier == 2 ? 5 : 8) * (100 + (int64_t)a->days);
+}
+
 static area_t read_area(uint32_t peak, const uint8_t *body)
 {
     area_t a;
@@ -236,6 +243,9 @@ static area_t read_area(uint32_t peak, const uint8_t *body)
             a.upward = upward > a.upward ? upward : a.upward;
         }
     }
+    a.surcharge = (int64_t)a.upward * a.hub * scaled_multiplier(&a, a.tier);
+    a.surcharge = a.surcharge < 0 ? 0 : a.surcharge;
+    a.shown = rounded(a.surcharge, 400000);
     return a;
 }
 
@@ -270,12 +280,6 @@ static inline int price_needed(const area_t *a, int peak, uint32_t tier)
     return a->flag == 1 && (peak ? a->tier >= 2 && tier == 0 : tier >= 2);
 }
 
-/* m * (1 + d/100) for a tier, in four-hundredths. */
-static inline int64_t scaled_multiplier(const area_t *a, uint32_t tier)
-{
-    return (tier == 2 ? 5 : 8) * (100 + (int64_t)a->days);
-}
-
 /* The amounts of an hour. Returns 0, or what a needed price refuses. */
 static uint32_t amounts_of(const area_t *a, uint32_t peak_word, const uint8_t *hour, size_t h, amounts_t *amounts)
 {
@@ -293,12 +297,10 @@ static uint32_t amounts_of(const area_t *a, uint32_t peak_word, const uint8_t *h
         }
     }
     if (peak && a->tier >= 2) {
-        int64_t product = (int64_t)a->upward * a->hub * scaled_multiplier(a, a->tier);
-        int64_t surcharge = product < 0 ? 0 : product;
         int64_t credit = tier == 0 ? (int64_t)a->upward * price * 4 : 0;
-        int64_t due = surcharge - credit;
+        int64_t due = a->surcharge - credit;
         amounts->on = due <= 0 ? 0 : rounded(due, 400000);
-        amounts->surcharge = rounded(surcharge, 400000);
+        amounts->surcharge = a->shown;
         amounts->credit = rounded(credit, 400000);
     }
     if (!peak && tier >= 2) {

@@ -3,7 +3,7 @@ use Prim.Native.Nat.{ℕ, _≤_, _<_, zero-le}
 use mathlib.Core.Bool.{Bool, true, false, _&&_}
 use mathlib.Core.List.{List}
 use mathlib.Core.Logic.{_⊎_, inl, inr}
-use mathlib.Core.Path.{_≡_, refl}
+use mathlib.Core.Path.{_≡_, refl, _∙_}
 use borrow.Author.Tests.{ne-eqb}
 use lib.Dec.{eqb}
 use lib.IntN.{ℤ, pos, natAbs, _-ℤ_}
@@ -77,7 +77,7 @@ every-surcharge-shown-by d file statement z k h area hour =
     record {
       near = rw (on, surcharge, credit) (near terms body h);
       nothing = λ p. rw (surcharge, credit) (nothing terms body h p);
-      failed = λ p. rw credit (failed terms body h p);
+      failed = λ p. credit ∙ failed terms body h p;
     }
 
 -- ---- of `settle`

@@ -46,7 +46,7 @@ static inline int64_t rounded(int64_t a, int64_t b)
     return q;
 }
 
-static int real_date(uint32_t date)
+int careful_real_date(uint32_t date)
 {
     static const uint8_t lengths[12] = {31, 28, 31, 30, 31, 30, 31, 31, 30, 31, 30, 31};
     uint32_t year = date / 10000, month = date / 100 % 100, day = date % 100;
@@ -157,7 +157,7 @@ static uint64_t check(const uint8_t *file, size_t length)
     if (word(file, 0) != 1) {
         return REFUSED(2, 0);
     }
-    if (!real_date(word(file, 1))) {
+    if (!careful_real_date(word(file, 1))) {
         return REFUSED(4, 1);
     }
     n = word(file, 2);
@@ -373,20 +373,27 @@ static uint64_t settle_area(uint32_t peak, const uint8_t *body, size_t start, ui
     return 0;
 }
 
+size_t careful_numbers_needed(const uint8_t *file)
+{
+    size_t needed = 0, n = word(file, 2), k;
+    for (k = 0; k < n; k++) {
+        needed += 24 * RSE8080_HOUR_NUMBERS((size_t)word(file, word(file, 5 + 3 * k) + 6));
+    }
+    return needed;
+}
+
 uint64_t careful_settle(const uint8_t *file, size_t file_len, uint8_t *statement, size_t statement_len)
 {
     uint8_t settled[RSE8080_MOST_STATEMENT_BYTES], *end = settled;
     uint64_t answer = check(file, file_len);
-    size_t needed = 0, n, k;
+    size_t needed, n, k;
     uint32_t peak;
     if (answer != 0) {
         return answer;
     }
     n = word(file, 2);
     peak = word(file, 3);
-    for (k = 0; k < n; k++) {
-        needed += 24 * RSE8080_HOUR_NUMBERS((size_t)word(file, word(file, 5 + 3 * k) + 6));
-    }
+    needed = careful_numbers_needed(file);
     if (statement_len / 8 < needed) {
         return REFUSED(13, needed);
     }

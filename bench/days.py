@@ -1,5 +1,5 @@
 #!/usr/bin/env python3
-"""The day files of the benchmark.
+"""The day files of the benchmark, and its month book.
 
     days.py FOLDER     writes them to FOLDER
 
@@ -9,6 +9,8 @@ smallest   one area with one coordinator and one load point, no failure
 refused    the full day, its last word broken
 areas-N    N areas of one coordinator, 2 load points, failures in every hour
 ciso-K     one CISO area of K coordinators, 2 load points, failures in every hour
+
+full.book  a month book of the full day under each date of May
 """
 
 import random
@@ -56,16 +58,23 @@ def broken(file_bytes):
     return file_bytes[:-4] + b"\xff\xff\xff\x7f"
 
 
-def all_days():
+def month_of(file_bytes):
+    """A month book of the same day under each date of May."""
+    dates = range(20260501, 20260532)
+    return days.Book([days.with_words(file_bytes, (1, date)) for date in dates]).to_bytes()
+
+
+def all_files():
     full = day_of(1, [ciso(64)] + 7 * [OTHER], 100)
-    yield "full", full
-    yield "ordinary", day_of(2, [ciso(64)] + 7 * [OTHER], 5)
-    yield "smallest", days.quiet_day([(0, 1, 1)]).to_bytes()
-    yield "refused", broken(full)
+    yield "full.day", full
+    yield "full.book", month_of(full)
+    yield "ordinary.day", day_of(2, [ciso(64)] + 7 * [OTHER], 5)
+    yield "smallest.day", days.quiet_day([(0, 1, 1)]).to_bytes()
+    yield "refused.day", broken(full)
     for count in range(1, 9):
-        yield "areas-%d" % count, day_of(3, count * [OTHER], 100)
+        yield "areas-%d.day" % count, day_of(3, count * [OTHER], 100)
     for count in (1, 2, 4, 8, 16, 32, 64):
-        yield "ciso-%d" % count, day_of(4, [ciso(count)], 100)
+        yield "ciso-%d.day" % count, day_of(4, [ciso(count)], 100)
 
 
 def main():
@@ -74,8 +83,8 @@ def main():
     folder = parser.parse_args().folder
     try:
         folder.mkdir(parents=True, exist_ok=True)
-        for name, file_bytes in all_days():
-            (folder / (name + ".day")).write_bytes(file_bytes)
+        for name, file_bytes in all_files():
+            (folder / name).write_bytes(file_bytes)
     except OSError as error:
         parser.error("the days cannot be written: %s" % error)
 

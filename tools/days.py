@@ -1,11 +1,11 @@
 #!/usr/bin/env python3
-"""Day files of document 01: a builder from named numbers to bytes, the place of each word, and
-random days.
+"""Day files of document 01 and month books of document 02, §5: builders from named numbers to bytes,
+the place of each word, and random days.
 
 A Day holds exactly the numbers of a day file; `to_bytes` works out the contents. The builder checks
 nothing, so that a day with a number out of its range can be built too. The random days keep every
 rule of the check, so that each is accepted unless it is damaged afterwards; settling may still
-refuse one with 16, 11 or 12.
+refuse one with 16, 11 or 12. A Book holds day files, and checks as little.
 
 Only `randrange` and `choice` of random.Random are used, and no floating point number, so that a
 seed gives the same days on every machine.
@@ -42,6 +42,9 @@ HOUR_NUMBERS = (
 )
 UPWARD = HOUR_NUMBERS[:4]
 DOWNWARD = HOUR_NUMBERS[4:6]
+
+# The words of a day in the contents of a book, in their order.
+KEPT_DAY = ("date", "first", "length")
 
 # The ends of each range of document 01.
 MOST_DEFICIENCY = 2500000
@@ -148,6 +151,27 @@ class Day:
 
     def demand_place(self, area, hour, coordinator):
         return self.quantity_place(area, hour, 12 * self.areas[area].load_points) + coordinator
+
+
+class Book:
+    """A month book: the bytes of day files, in the order in which they stand. Days count from 0."""
+
+    def __init__(self, files):
+        self.files = files
+
+    def to_bytes(self):
+        contents = [1, len(self.files)]
+        for day, file_bytes in enumerate(self.files):
+            (date,) = struct.unpack("<I", file_bytes[4:8])
+            contents += [date, self.file_place(day), len(file_bytes) // 4]
+        return bytes_of(contents) + b"".join(self.files)
+
+    def contents_place(self, day, name):
+        return 2 + 3 * day + KEPT_DAY.index(name)
+
+    def file_place(self, day):
+        before = sum(len(file_bytes) // 4 for file_bytes in self.files[:day])
+        return 2 + 3 * len(self.files) + before
 
 
 # Bytes and words

@@ -1,14 +1,16 @@
 #!/usr/bin/env python3
-"""The rules of document 01, and of document 02 as far as its requests are taken up (§1 to §4), as
+"""The rules of document 01, and of document 02 as far as its requests are taken up (§1 to §5), as
 plain functions: the check, the settlement, the price of an hour, the sharing of an amount, the
-lookup, the C call, the program, the record of failing days and the settlement with it.
+lookup, the C call, the program, the record of failing days and the settlement with it, the month
+book with its settlement, a day added to it and a day withdrawn from it.
 
 It is written to be read beside these documents and to be right, not to be fast. Quantities, prices
 and amounts are exact fractions in MW, dollars a MWh and dollars, and are rounded once, by R. It
 shares no code with the crates, so that an agreement of the two says something.
 
 Run as a program it prints the figures T1 to T12, T6 and T7 with the S and the credit that they show
-(document 02, §4), the figure of §2, what a record counts (§3), and Case P, and exits 1 if one is off.
+(document 02, §4), the figure of §2, what a record counts (§3), what a book holds and gives (§5), and
+Case P, and exits 1 if one is off.
 """
 
 import datetime
@@ -38,6 +40,11 @@ DAYS_KEPT = 30
 MOST_HELD = 8
 RECORD_WORDS = 2 + 2 * MOST_HELD
 FIRST_DAY = datetime.date(2000, 1, 1)
+
+# The month book of document 02, §5: "word 1 the number of days, 0 to 31"; of a day "its date, first
+# word and length in words (4 or more)".
+MOST_DAYS = 31
+LEAST_DAY_WORDS = 4
 
 
 class Refused(Exception):
@@ -631,6 +638,151 @@ def settle_recorded(record, file_bytes, statement):
     )
 
 
+# The month book (document 02, §5)
+
+KeptDay = namedtuple("KeptDay", "date file_bytes")
+
+
+def book_words(room):
+    """The words of the lent room, in which the book stands; bytes past its last whole word are not
+    counted. Read as signed too: a room of 2,147,483,648 words is longer than any here."""
+    return words_of(room[: len(room) // 4 * 4])
+
+
+def first_file_word(n):
+    """The day files follow word 0, word 1 and the three words of each of the n days."""
+    return 2 + 3 * n
+
+
+def book_rules(words):
+    """The words of the contents in order, then each day's word 1, each as (word that is judged,
+    whether it keeps its rule). Left at the first that is broken, as the rules of a day file are."""
+    # Word 0 is 1; also where the room is under 2 words.
+    yield 0, len(words) >= 2 and words[0] == 1
+    # Word 1 is the number of days, 0 to 31; also where the room lacks the contents.
+    n = words[1]
+    yield 1, 0 <= n <= MOST_DAYS and first_file_word(n) <= len(words)
+    for day in range(n):
+        yield from kept_day_rules(words, day)
+    # A day's date equals its file's word 1.
+    for day in range(n):
+        date, first, _ = words[2 + 3 * day : 5 + 3 * day]
+        yield first + 1, words[first + 1] == date
+
+
+def kept_day_rules(words, day):
+    """A day in the contents: its date, first word and length in words."""
+    at = 2 + 3 * day
+    date, first, length = words[at : at + 3]
+    # A date is real, 2000 to 2099; the dates rise strictly.
+    yield at, is_date(date) and (day == 0 or words[at - 3] < date)
+    # The day files follow without gaps.
+    due = first_file_word(words[1]) if day == 0 else words[at - 2] + words[at - 1]
+    yield at + 1, first == due
+    # 4 or more; the length word of a day that passes the room.
+    yield at + 2, length >= LEAST_DAY_WORDS and first + length <= len(words)
+
+
+def check_book(room):
+    """20 with the first word that breaks a rule of the book, or 0, 0."""
+    for place, kept in book_rules(book_words(room)):
+        if not kept:
+            return 20, place
+    return 0, 0
+
+
+def days_of_book(room):
+    """The days that a good book holds, in its order."""
+    words = book_words(room)
+    entries = [words[2 + 3 * day : 5 + 3 * day] for day in range(words[1])]
+    return [
+        KeptDay(date, room[4 * first : 4 * (first + length)]) for date, first, length in entries
+    ]
+
+
+def book_of(days_kept):
+    """The bytes of the book that holds these days, in rising order of their dates."""
+    days_kept = sorted(days_kept)
+    contents, first = [1, len(days_kept)], first_file_word(len(days_kept))
+    for date, file_bytes in days_kept:
+        length = len(file_bytes) // 4
+        contents += [date, first, length]
+        first += length
+    files = b"".join(file_bytes for _, file_bytes in days_kept)
+    return struct.pack("<%di" % len(contents), *contents) + files
+
+
+def coded(number, place):
+    """Number × 1,000,000 + place: the C call's answer, and what a place of the table holds."""
+    return number * 1000000 + place
+
+
+def settle_month(room, statement, table):
+    """Number, place, the statement and the table afterwards. The result is that of settling the days
+    one by one; a refused day leaves its part as it was and the others go on."""
+    statement, table = list(statement), list(table)
+    # 20, checked before any day.
+    number, place = check_book(room)
+    if number != 0:
+        return number, place, statement, table
+    days_kept = days_of_book(room)
+    # 21, the table has fewer places than days.
+    if len(table) < len(days_kept):
+        return 21, 0, statement, table
+
+    # The numbers from `start` to `end` are the room that is left for the days to come.
+    start, end = 0, len(statement)
+    for day, (_, file_bytes) in enumerate(days_kept):
+        number, place, statement[start:end] = settle(file_bytes, statement[start:end])
+        table[day] = coded(number, place)
+        if number == 13:
+            # Once a day's part doesn't fit, it and every later day that passes its check get 13,
+            # each with its own numbers needed: nothing is left for them.
+            end = start
+        elif check(file_bytes) == (0, 0):
+            # A day that its check refuses takes no numbers; any other takes those it needs.
+            start += numbers_needed(areas_of(words_of(file_bytes)))
+    return 0, 0, statement, table
+
+
+def add_day(room, file_bytes):
+    """Number, place and the room afterwards, with the day added to the book; a refusal leaves the book
+    as it was."""
+    number, place = check_book(room)
+    if number != 0:
+        return number, place, room
+    # A new day that the check refuses is refused with the check's number, before 22.
+    number, place = check(file_bytes)
+    if number != 0:
+        return number, place, room
+    days_kept = days_of_book(room)
+    new = KeptDay(words_of(file_bytes)[1], file_bytes)
+    # 22, date already there, before 21.
+    if new.date in [day.date for day in days_kept]:
+        return 22, 0, room
+    # 21, exactly when the days kept plus the new one don't fit or would be 32. A book is whole words,
+    # so that bytes past the room's last whole word never make it fit.
+    book = book_of(days_kept + [new])
+    if len(days_kept) == MOST_DAYS or len(book) > len(room):
+        return 21, 0, room
+    return 0, 0, book + room[len(book) :]
+
+
+def withdraw_day(room, date):
+    """Number, place and the room afterwards, with the day of this date withdrawn from the book; freed
+    words become 0. A refusal leaves the book as it was."""
+    number, place = check_book(room)
+    if number != 0:
+        return number, place, room
+    days_kept = days_of_book(room)
+    # 22, date absent.
+    if date not in [day.date for day in days_kept]:
+        return 22, 0, room
+    old_end = len(book_of(days_kept))
+    book = book_of([day for day in days_kept if day.date != date])
+    return 0, 0, book + bytes(old_end - len(book)) + room[old_end:]
+
+
 # The other calls
 
 
@@ -697,7 +849,7 @@ def c_call(file_bytes, statement_bytes):
     statement = list(struct.unpack("<%dq" % whole, statement_bytes[: 8 * whole]))
     number, place, after = settle(file_bytes, statement)
     afterwards = struct.pack("<%dq" % whole, *after) + statement_bytes[8 * whole :]
-    return number * 1000000 + place, afterwards
+    return coded(number, place), afterwards
 
 
 def program(file_bytes):
@@ -843,6 +995,38 @@ def record_figures():
         yield "d %d on %d" % (d, date), due, (number, place, statement[2 * HOUR_OF_ONE + 1])
 
 
+def month_figures():
+    """Document 02, §5: Case P and the day after it in one book, added in the other order. Case P is
+    refused with 16 and leaves its part as it was, the day after it has its part behind that: U 40, Q 60,
+    price 25 and d 0 in hour ending 3. Then Case P is withdrawn.
+    """
+    import days
+
+    area = days.quiet_area(number=7, kind=0, load_points=1, coordinators=[12])
+    hour = area.hours[2]
+    hour.energy_up, hour.requirement, hour.pairs = 40000, 60000, [(1000, 250000)] * 12
+    day_after = days.Day(20260505, PEAK_WORD, [area]).to_bytes()
+    behind = bytes([165]) * 30
+    room = struct.pack("<2i", 1, 0) + bytes(4 * (6 + 2 * 807)) + behind
+    for file_bytes in (day_after, case_p()):
+        number, place, room = add_day(room, file_bytes)
+        assert (number, place) == (0, 0)
+    contents = (1, 2, 20260504, 8, 807, 20260505, 815, 807)
+    yield "the contents of two days", contents, book_words(room)[:8]
+    yield "their files in order", True, room[4 * 8 :] == case_p() + day_after + behind
+
+    number, place, statement, table = settle_month(room, [-1] * 300, [-1] * 3)
+    yield "the table of the month", (0, 0, [16000089, 0, -1]), (number, place, table)
+    off_peak_amounts = statement[2 * HOUR_OF_ONE + 1 : 2 * DAY_OF_ONE : DAY_OF_ONE]
+    yield "hour ending 3 of each day, off-peak", [-1, 200000], off_peak_amounts
+    yield "what is behind the parts", [-1] * 12, statement[2 * DAY_OF_ONE :]
+
+    number, place, room = withdraw_day(room, 20260504)
+    contents = (0, 0, (1, 1, 20260505, 5, 807))
+    yield "the contents of one day", contents, (number, place, book_words(room)[:5])
+    yield "its file, freed words", True, room[4 * 5 :] == day_after + bytes(4 * 810) + behind
+
+
 def downward_figures():
     """T8 and T9."""
     yield "T8 W 10.000 at -100", 0, downward(Fraction("10.000"), Fraction(-100))
@@ -887,6 +1071,7 @@ def main():
         on_peak_figures,
         off_peak_figures,
         record_figures,
+        month_figures,
         downward_figures,
         call_figures,
     ):

@@ -17,9 +17,13 @@ A case is four little-endian words (call, x, y, payload bytes) and the payload:
     6 C call   a day file, x statement bytes lent              coded answer, digest of the x bytes
     7 enter    a record, a day file                            number, place, the record afterwards
     8 recorded a record, a day file, x numbers lent            number, place, the x numbers
+    9 month    a word p, a book in its room, x numbers lent    number, place, p places, the x numbers
+   10 add      a word b, b bytes of a book's room, a day file  number, place, digest of the b bytes
+   11 withdraw a book in its room, x the date                  number, place, digest of the room
 
 A record is 18 words, the last day entered, the number of areas held and 8 places of two words; call
-8 settles with it.
+8 settles with it. A book has any number of words or bytes behind it in its room; call 9 settles its
+days with a table of p places, calls 10 and 11 add a day to it and withdraw one.
 
 The expected lines come from reference.py alone. Each group of cases is one generator function with
 a seed of its own, so that a group added or left out does not move another.
@@ -45,13 +49,19 @@ INPUT = ROOT / "crates" / "vectors" / "stdin"
 EXPECTED = ROOT / "crates" / "vectors" / "stdout"
 
 # The calls that the committed stream holds: those that the vectors program has.
-CALLS = (1, 2, 3, 4, 5, 6, 7, 8)
-ALL_CALLS = (1, 2, 3, 4, 5, 6, 7, 8)
+CALLS = (1, 2, 3, 4, 5, 6, 7, 8, 9, 10, 11)
+ALL_CALLS = (1, 2, 3, 4, 5, 6, 7, 8, 9, 10, 11)
 
-CHECK, SETTLE, PRICE, SHARE, LOOKUP, C_CALL, ENTER, RECORDED = ALL_CALLS
+CHECK, SETTLE, PRICE, SHARE, LOOKUP, C_CALL, ENTER, RECORDED = ALL_CALLS[:8]
+MONTH, ADD_DAY, WITHDRAW_DAY = ALL_CALLS[8:]
 
-# What the vectors program has room for.
-MOST_PAYLOAD = 66000
+# What the vectors program has room for: bytes of a payload, numbers lent, places lent in a table.
+MOST_PAYLOAD = 262144
+MOST_LENT = 8192
+MOST_PLACES = 64
+
+# What rt takes of a program's output.
+MOST_LINES_BYTES = 1048576
 
 # The bytes of a record, which stand before the day file in the payload of calls 7 and 8.
 RECORD_BYTES = 4 * reference.RECORD_WORDS
@@ -70,6 +80,11 @@ def case_bytes(case):
 def lent_numbers(count):
     """Number i of lent numbers holds -9,000,000,000,000,000,000 + i before the call."""
     return [-9000000000000000000 + i for i in range(count)]
+
+
+def lent_places(count):
+    """Place i of a lent table holds 9,000,000,000,000,000,000 + i before the call."""
+    return [9000000000000000000 + i for i in range(count)]
 
 
 def lent_bytes(count):
@@ -101,6 +116,12 @@ def record_arguments(payload):
     return list(record), payload[RECORD_BYTES:]
 
 
+def counted(payload):
+    """The word that stands first in the payload of calls 9 and 10, and what is behind it."""
+    (count,) = struct.unpack("<I", payload[:4])
+    return count, payload[4:]
+
+
 def answers(case):
     """The numbers of the line that the vectors program prints."""
     call, x, payload = case
@@ -125,6 +146,19 @@ def answers(case):
         record, file_bytes = record_arguments(payload)
         number, place, statement = reference.settle_recorded(record, file_bytes, lent_numbers(x))
         return [number, place] + statement
+    if call == MONTH:
+        places, room = counted(payload)
+        number, place, statement, table = reference.settle_month(
+            room, lent_numbers(x), lent_places(places)
+        )
+        return [number, place] + table + statement
+    if call == ADD_DAY:
+        size, rest = counted(payload)
+        number, place, room = reference.add_day(rest[:size], rest[size:])
+        return number, place, digest(room)
+    if call == WITHDRAW_DAY:
+        number, place, room = reference.withdraw_day(payload, x)
+        return number, place, digest(room)
     coded, after = reference.c_call(payload, lent_bytes(x))
     return coded, digest(after)
 
@@ -912,8 +946,8 @@ def settle_rooms(rng):
         column = 24 * len(shapes)
         for lent in (room, room - 1, room - column, room - 2 * column, 0, 1, room + 1, 2 * room):
             yield Case(SETTLE, lent, day.to_bytes())
-    # The longest room of the vectors program.
-    yield Case(SETTLE, 8192, filled_day(rng, SMALL).to_bytes())
+    # Far more than that; the longest room of all is the C call's, whose line is short.
+    yield Case(SETTLE, 512, filled_day(rng, SMALL).to_bytes())
 
 
 def settle_refused(rng):
@@ -2100,6 +2134,562 @@ def recorded_random(rng):
         yield recorded_case(random_record(rng, day.date, numbers), day)
 
 
+# Month books, for the calls 9, 10 and 11
+
+
+def month_case(room, places, lent):
+    return Case(MONTH, lent, days.bytes_of([places]) + room)
+
+
+def add_case(room, file_bytes):
+    return Case(ADD_DAY, 0, days.bytes_of([len(room)]) + room + file_bytes)
+
+
+def withdraw_case(room, date):
+    return Case(WITHDRAW_DAY, date, room)
+
+
+def short_file(date, words=4):
+    """A day file of four words or more, which its check refuses with 3: the smallest that a book can
+    keep."""
+    return days.bytes_of(header(n=0, date=date) + [0] * (words - 4))
+
+
+def long_file(date, words):
+    """A file whose one body ends long before it: refused with 6, or with 1 if it has more than 16,384
+    words, which are 65,536 bytes."""
+    return days.bytes_of(header(date=date) + [7, 7, 800] + [0] * (words - 7))
+
+
+def told_day(date, *shapes):
+    """A quiet day, of the smallest shape unless others are given, in which the off-peak amount of
+    hour ending 3 tells the date."""
+    day = days.quiet_day(shapes or [SMALL], date=date)
+    fail(day.areas[0].hours[2], 10001 + date % 10000)
+    return day
+
+
+def told_file(date, *shapes):
+    return told_day(date, *shapes).to_bytes()
+
+
+def dates_from(date, count):
+    return [days.later(date, after) for after in range(count)]
+
+
+def short_book(count, date=20260501):
+    """A book of files of four words, which differ in their dates."""
+    return days.Book([short_file(day) for day in dates_from(date, count)])
+
+
+def numbers_of(files):
+    """The numbers that the days of a book take, those that their check accepts."""
+    return sum(needed(file_bytes) for file_bytes in files)
+
+
+def unsettled_file(gap, date):
+    """A file of 144 numbers that the check accepts and settlement refuses with 16, 11 or 12."""
+    day = failing_day([(1, 1, 1)])
+    day.date = date
+    gap(day.areas[0].hours[23])
+    return day.to_bytes()
+
+
+# What settlement refuses with 16, 11 and 12.
+UNSETTLED = (one_price_short, without_quantity, dry)
+
+
+def refused_days(rng, date):
+    """Files of one date after the other that their check refuses, with each of the numbers that a day
+    of a book can have but 1: its size is of whole words and its date real."""
+    for file_bytes in refused_files(rng):
+        if len(file_bytes) < 16 or len(file_bytes) % 4 != 0:
+            continue
+        file_bytes = with_words(file_bytes, (1, date))
+        if reference.check(file_bytes) != (0, 0):
+            yield file_bytes
+            date = days.later(date, 1)
+
+
+def varied_bytes(count):
+    """Bytes for what is behind a book, no word like the next: it is seen where they are moved."""
+    return bytes((37 * place + place // 256 + 11) % 256 for place in range(count))
+
+
+def short_rooms(book_bytes):
+    """Rooms that end before the book does, by a byte to a word."""
+    return [book_bytes[: len(book_bytes) - missing] for missing in (4, 3, 2, 1)]
+
+
+def long_rooms(book_bytes):
+    """Rooms of exactly the book's words, of a byte to three more, and with words behind."""
+    return [book_bytes + varied_bytes(more) for more in (0, 1, 2, 3, 4, 7, 40)]
+
+
+def tiny_rooms():
+    """Rooms of 0 to 8 bytes: the empty book, one that says a day, and another first word."""
+    for words in ([1, 0], [1, 1], [0, 0], [2, 0]):
+        for size in range(9):
+            yield days.bytes_of(words)[:size]
+
+
+def broken_books():
+    """Books on both sides of each rule of their words (20), of three days of four words and of 31."""
+    ends = (0, 0x7FFFFFFF, 0x80000000, 0xFFFFFFFF)
+    book = short_book(3)
+    good = book.to_bytes()
+    for edition in (1, 2, 256, 16777216, 0x80000001) + ends:
+        yield with_words(good, (0, edition))
+    # The room has 23 words, and 7 days have a contents of so many. 2 + 3n leaves 1 and 4 in 32 bits
+    # for the last two.
+    for n in (1, 2, 3, 4, 7, 8, 31, 32, 33, 1431655765, 1431655766) + ends:
+        yield with_words(good, (1, n))
+    for day, date in enumerate(dates_from(20260501, 3)):
+        place = book.contents_place(day, "date")
+        dates = [date + step for step in (-2, -1, 1, 2, 1 << 31)]
+        for value in dates + [20260431, 20230229, 20260001, 19991231, 21000101] + list(ends):
+            yield with_words(good, (place, value))
+        first = book.file_place(day)
+        place = book.contents_place(day, "first")
+        for value in (first - 1, first + 1, first + 4, 2, first + (1 << 31)) + ends:
+            yield with_words(good, (place, value))
+        # The last two end at word 0 and at word 4 in 32 bits.
+        place = book.contents_place(day, "length")
+        lengths = (1, 3, 5, 8, 12, 13, 4 + (1 << 31), (1 << 32) - first, (1 << 32) - first + 4)
+        for value in lengths + ends:
+            yield with_words(good, (place, value))
+        for value in (date - 1, date + 1, 20260431, date + (1 << 31)) + ends[:1]:
+            yield with_words(good, (first + 1, value))
+            # In the contents and in the file.
+            yield with_words(good, (book.contents_place(day, "date"), value), (first + 1, value))
+    # The last day ends behind the files: with the room, and a word past it.
+    place = book.contents_place(2, "length")
+    for more in (0, 1, 2, 3, 4):
+        for behind in (12, 15):
+            yield with_words(good + varied_bytes(behind), (place, 4 + more))
+    # The second day starts and ends a word later, or has a word less than four.
+    yield with_words(good, (4, 5), (6, 16), (7, 3))
+    yield with_words(good, (4, 5), (6, 16), (9, 20), (10, 3))
+    yield with_words(good + bytes(4), (4, 5), (6, 16), (9, 20))
+    # The last of 31 days; 30 and 32 in word 1, with 31 and 32 in the contents.
+    book = short_book(31)
+    good = book.to_bytes()
+    place, first = book.contents_place(30, "date"), book.file_place(30)
+    for changed, value in (
+        (place, 20260530),
+        (place, 20260532),
+        (place, 20260601),
+        (place + 1, first - 1),
+        (place + 1, first + 1),
+        (place + 2, 3),
+        (place + 2, 5),
+        (first + 1, 20260530),
+        (1, 30),
+        (1, 31),
+        (1, 32),
+    ):
+        yield with_words(good, (changed, value))
+    yield short_book(32).to_bytes()
+
+
+def twice_broken_books(rng):
+    """Two words of a book broken, or several: the first wins, and a day's word 1 comes behind the
+    contents."""
+    book = short_book(3)
+    good = book.to_bytes()
+    broken = [(0, 2), (1, 32)]
+    for day in range(3):
+        place, first = book.contents_place(day, "date"), book.file_place(day)
+        broken += [(place, 20260431), (place + 1, first + 1), (place + 2, 3)]
+    broken += [(book.file_place(day) + 1, 20260431) for day in range(3)]
+    for earlier, later in zip(broken, broken[1:]):
+        yield with_words(good, earlier, later)
+    for _ in range(8):
+        picked = [broken[rng.randrange(len(broken))] for _ in range(between(rng, 2, 5))]
+        yield with_words(good, *picked)
+    # The contents is cut off, and its first words are broken as well.
+    yield with_words(good, (2, 0), (3, 0))[: 4 * 10]
+
+
+def largest_file(date):
+    """A day of 12,611 words and 2,664 numbers."""
+    return told_file(date, *[(0, 2, 1)] * 7, (1, 2, 64))
+
+
+# Call 9: settling a month
+
+
+def month_rooms(rng):
+    """Books of 0, 1, 2 and 31 days, in rooms that end too early, exactly and behind them."""
+    day = told_file(DATE)
+    for files in (
+        [],
+        short_book(1).files,
+        [day],
+        [short_file(20260503), day],
+        short_book(31).files,
+    ):
+        book_bytes = days.Book(files).to_bytes()
+        for room in short_rooms(book_bytes):
+            yield month_case(room, len(files), 2)
+        for room in long_rooms(book_bytes):
+            yield month_case(room, len(files), numbers_of(files) + 1)
+    for room in tiny_rooms():
+        yield month_case(room, 1, 1)
+
+
+def month_broken_books(rng):
+    """Refusal 20 for each word of a book, and what is next to it and good."""
+    for room in broken_books():
+        yield month_case(room, 3, 1)
+
+
+def month_order(rng):
+    """20 before 21, and both before any day: nothing is written, though days before the broken word
+    would be settled."""
+    for room in twice_broken_books(rng):
+        yield month_case(room, 0, 1)
+    files = [told_file(20260501), unsettled_file(dry, 20260502), told_file(20260503)]
+    book = days.Book(files)
+    good = book.to_bytes()
+    for places, change, lent in (
+        (3, (book.file_place(2) + 1, 20260504), 144),
+        (3, (book.contents_place(2, "length"), 808), 144),
+        (2, (book.contents_place(2, "length"), 806), 5),
+        (2, (book.contents_place(2, "length"), 808), 5),
+        (2, (0, 1), 144),
+        (0, (0, 1), 5),
+    ):
+        yield month_case(with_words(good, change), places, lent)
+
+
+def month_tables(rng):
+    """Refusal 21: tables of one place less than the days, as many, one more and 64."""
+    for count in (0, 1, 2, 3, 30, 31):
+        room = short_book(count).to_bytes()
+        for places in (max(0, count - 1), count, count + 1, 64):
+            yield month_case(room, places, 1)
+    files = [told_file(date) for date in dates_from(DATE, 2)]
+    for places in (0, 1, 2, 3):
+        yield month_case(days.Book(files).to_bytes(), places, 289 if places > 1 else 2)
+
+
+def month_statements(rng):
+    """Statements that end in each day: one number short of its end, at its end and one behind."""
+    shapes = ([SMALL], [(1, 1, 2)], [SMALL, SMALL])
+    files = [told_file(date, *shape) for date, shape in zip((20260430, 20260501, 20260601), shapes)]
+    room = days.Book(files).to_bytes()
+    ends = (144, 144 + 168, 144 + 168 + 288)
+    assert ends[2] == numbers_of(files)
+    for lent in [0, 1] + [end + step for end in ends for step in (-1, 0, 1)]:
+        yield month_case(room, 3, lent)
+
+
+def month_refused_days(rng):
+    """Days that their check refuses: first, in the middle, last and alone. They take no numbers, and
+    say their number also behind a day that does not fit."""
+    refused = list(refused_days(rng, 20260505))
+    first, last = told_file(20260504), told_file(20260601)
+    room = days.Book([first] + refused + [last]).to_bytes()
+    for lent in (288, 143):
+        yield month_case(room, 2 + len(refused), lent)
+    for files in ([refused[-1], last], [first, refused[0]], [refused[3]]):
+        yield month_case(days.Book(files).to_bytes(), 2, numbers_of(files) + 1)
+    for words in (16384, 16385):
+        files = [long_file(20260503, words), first]
+        yield month_case(days.Book(files).to_bytes(), 2, 144)
+
+
+def month_unsettled_days(rng):
+    """Days refused with 16, 11 and 12: their part stays as it was, and the next one is behind it."""
+    for gap in UNSETTLED:
+        files = [unsettled_file(gap, 20260501), told_file(20260502)]
+        yield month_case(days.Book(files).to_bytes(), 2, 288)
+    files = [told_file(20260501), unsettled_file(one_price_short, 20260502)]
+    yield month_case(days.Book(files).to_bytes(), 2, 288)
+    # All three, and one that its check refuses, between two that are settled.
+    dates = dates_from(20260228, 6)
+    files = [told_file(dates[0])]
+    files += [unsettled_file(gap, date) for gap, date in zip(UNSETTLED, dates[1:])]
+    files += [short_file(dates[4]), told_file(dates[5])]
+    yield month_case(days.Book(files).to_bytes(), 6, 5 * 144)
+    # Their own part does not fit: 13 comes first. It does, and the next one does not behind it.
+    for gap, lent in zip(UNSETTLED + UNSETTLED[:1], (143, 0, 144, 287)):
+        files = [unsettled_file(gap, 20260501), told_file(20260502)]
+        yield month_case(days.Book(files).to_bytes(), 2, lent)
+
+
+def month_behind_13(rng):
+    """Behind a day that does not fit: smaller days that would, days that their check refuses, and days
+    that settlement would refuse. Each says 13 with its own numbers, or what its check says."""
+    files = [told_file(20260501), told_file(20260502, SMALL, CISO), told_file(20260503)]
+    files += [short_file(20260504, 9)]
+    files += [unsettled_file(gap, date) for gap, date in zip(UNSETTLED, dates_from(20260505, 3))]
+    files += [told_file(20260508, (1, 1, 2)), told_file(20260509)]
+    room = days.Book(files).to_bytes()
+    second = 144 + 144 + 192
+    for lent in (0, 144, second - 1, second + 144):
+        yield month_case(room, 9, lent)
+    # The largest first: each of the others would fit.
+    files[:2] = [told_file(20260501, SMALL, CISO), told_file(20260502)]
+    yield month_case(days.Book(files).to_bytes(), 10, 144 + 192 - 1)
+
+
+def month_dates(rng):
+    """Days of several months and years, from the first to the last that a file can have."""
+    dates = (20000101, 20000229, 20000301, 20231231, 20240101, 20240229, 20991231)
+    files = [told_file(date) if date % 100 == 29 else short_file(date) for date in dates]
+    yield month_case(days.Book(files).to_bytes(), 7, 289)
+    for date in (20230229, 21000101, 19991231, 20000100):
+        yield month_case(days.Book([short_file(date)]).to_bytes(), 1, 1)
+
+
+def month_one_by_one(rng):
+    """Days of other areas, d, hubs and failures, some of which settlement refuses."""
+    for _ in range(6):
+        files = []
+        for date in dates_from(days.later(20240220, rng.randrange(20)), between(rng, 2, 4)):
+            day = small_day(rng)
+            day.date = date
+            files.append(day.to_bytes())
+        yield month_case(days.Book(files).to_bytes(), len(files), numbers_of(files))
+
+
+def month_full(rng):
+    """31 days that are settled, in exactly their numbers; and the longest payload: five of the largest
+    days, of which three fit the most numbers that are lent."""
+    files = [told_file(date) for date in dates_from(20260501, 31)]
+    yield month_case(days.Book(files).to_bytes(), 31, 31 * 144)
+    room = days.Book([largest_file(date) for date in dates_from(20260501, 5)]).to_bytes()
+    yield month_case(room + varied_bytes(MOST_PAYLOAD - 4 - len(room)), 5, MOST_LENT)
+
+
+def month_random(rng):
+    """Random books of few days."""
+    for _ in range(12):
+        yield random_month_case(rng, most_days=3)
+
+
+# Calls 10 and 11: adding and withdrawing a day
+
+
+def book_changes(room, steps):
+    """A day added for each file, and withdrawn for each date, in the room that those before left."""
+    for step in steps:
+        if isinstance(step, bytes):
+            yield add_case(room, step)
+            _, _, room = reference.add_day(room, step)
+        else:
+            yield withdraw_case(room, step)
+            _, _, room = reference.withdraw_day(room, step)
+
+
+def of_call(call, cases):
+    return (case for case in cases if case.call == call)
+
+
+def roomy(book, new_file, behind=b""):
+    """Room for a book and just the new file with its three words in the contents, and bytes behind."""
+    return book.to_bytes() + varied_bytes(12 + len(new_file)) + behind
+
+
+def kept_files():
+    """Days of several lengths, every other day of May 2026 from the third: such as their check refuses,
+    and one that is settled."""
+    lengths = ((20260503, 4), (20260505, 5), (20260509, 40))
+    refused = [short_file(date, words) for date, words in lengths]
+    return refused[:2] + [told_file(20260507)] + refused[2:]
+
+
+def add_places(rng):
+    """A day before the first, between two and behind the last, near and far, and into an empty book;
+    what is behind the new end stays."""
+    book = days.Book(kept_files())
+    for date in (20000101, 20260502, 20260504, 20260506, 20260508, 20260510, 20991231):
+        yield add_case(roomy(book, told_file(date)), told_file(date))
+    for date in (20260502, 20260506, 20260510):
+        yield add_case(roomy(book, told_file(date), varied_bytes(50)), told_file(date))
+    for shapes in ([SMALL], [(1, 1, 2)], [SMALL, SMALL]):
+        new_file = told_file(DATE, *shapes)
+        for behind in (b"", varied_bytes(21)):
+            yield add_case(roomy(days.Book([]), new_file, behind), new_file)
+
+
+def add_rooms(rng):
+    """Refusal 21: a byte to four words short of the days kept and the new one, just enough, a byte to
+    three more."""
+    new_file = told_file(DATE)
+    for files in ([], kept_files()[:2]):
+        room = roomy(days.Book(files), new_file)
+        for missing in (1, 2, 3, 4, 5, 8, 12, 13, 16, 12 + len(new_file)):
+            yield add_case(room[: len(room) - missing], new_file)
+        for more in (0, 1, 2, 3, 4):
+            yield add_case(room + varied_bytes(more), new_file)
+
+
+def add_most_days(rng):
+    """Refusal 21: a 32nd day, wherever it would stand; the 31st is added there."""
+    for count in (29, 30, 31):
+        kept = [date for date in dates_from(20260402, count + 1) if date != 20260404]
+        book = days.Book([short_file(date) for date in kept])
+        for date in (20260401, 20260404, 20260601):
+            new_file = told_file(date)
+            yield add_case(roomy(book, new_file, varied_bytes(9)), new_file)
+
+
+def add_there(rng):
+    """Refusal 22: the date of the first day, of one between and of the last; before 21, where there is
+    no room and where there are 31 days."""
+    book = days.Book(kept_files())
+    for date in (20260503, 20260507, 20260509):
+        new_file = told_file(date)
+        for room in (roomy(book, new_file), book.to_bytes()):
+            yield add_case(room, new_file)
+    book = short_book(31)
+    for date in (20260501, 20260516, 20260531):
+        yield add_case(roomy(book, told_file(date)), told_file(date))
+        yield add_case(book.to_bytes(), told_file(date))
+    # The same file once more.
+    book = days.Book([told_file(DATE)])
+    yield add_case(roomy(book, book.files[0]), book.files[0])
+
+
+def add_refused(rng):
+    """A new day that the check refuses, before 22 and 21; the check knows nothing of the book."""
+    for file_bytes in refused_files(rng):
+        yield add_case(roomy(days.Book([]), file_bytes), file_bytes)
+    book = short_book(31)
+    for file_bytes in refused_days(rng, 20260528):
+        yield add_case(book.to_bytes(), file_bytes)
+    for words in (4, 9):
+        yield add_case(roomy(book, short_file(20260507)), short_file(20260507, words))
+    yield add_case(book.to_bytes(), long_file(DATE, 16385))
+
+
+def add_broken_books(rng):
+    """Refusal 20 for each word of a book, before the numbers of the check; what is next to it and good
+    is followed by the check's 3."""
+    cut = [room for count in (1, 31) for room in short_rooms(short_book(count).to_bytes())]
+    for room in itertools.chain(broken_books(), tiny_rooms(), cut):
+        yield add_case(room, short_file(20260502))
+    for room in twice_broken_books(rng):
+        yield add_case(room, b"")
+    # A day that is accepted otherwise, and one whose date is there.
+    book = short_book(3)
+    for date in (20260430, 20260502):
+        new_file = told_file(date)
+        room = roomy(book, new_file)
+        for change in ((0, 2), (1, 32), (8, 20260502), (book.file_place(2) + 1, 0)):
+            yield add_case(with_words(room, change), new_file)
+
+
+def add_orders(rng):
+    """Three days in every order from the empty book on, in room for just the three."""
+    dates = dates_from(20240228, 3)
+    shapes = (SMALL, (1, 1, 2), (1, 1, 5))
+    files = [told_file(date, shape) for date, shape in zip(dates, shapes)]
+    empty = days.Book([]).to_bytes()
+    room = empty + varied_bytes(len(days.Book(files).to_bytes()) - len(empty))
+    for order in itertools.permutations(files):
+        yield from book_changes(room, order)
+
+
+def add_after_withdrawal(rng):
+    """Freed words serve the next day added: a day of the same words, of fewer, and of more, which does
+    not fit; at the same place and at another; and all days withdrawn before."""
+    files = [told_file(20260503), told_file(20260505, (1, 1, 2)), told_file(20260507)]
+    room = days.Book(files).to_bytes() + varied_bytes(3)
+    for new_file in (
+        told_file(20260505, (1, 1, 2)),
+        told_file(20260505),
+        told_file(20260502, (1, 1, 1)),
+        told_file(20260509, (1, 1, 2)),
+        told_file(20260504, (1, 1, 3)),
+    ):
+        yield from of_call(ADD_DAY, book_changes(room, [20260505, new_file]))
+    steps = [20260503, 20260507, 20260505] + files[::-1]
+    yield from of_call(ADD_DAY, book_changes(room, steps))
+
+
+def add_full(rng):
+    """The 31st of settled days, at the front; the largest day between the smallest."""
+    files = [told_file(date) for date in dates_from(20260501, 31)]
+    yield add_case(roomy(days.Book(files[1:]), files[0], varied_bytes(2)), files[0])
+    new_file = largest_file(20260501)
+    kept = [short_file(20260430), short_file(20260502)]
+    yield add_case(roomy(days.Book(kept), new_file), new_file)
+
+
+def add_random(rng):
+    """Random books of few days."""
+    for _ in range(8):
+        yield random_add_case(rng, most_days=3)
+
+
+def withdraw_places(rng):
+    """The first day, one between, the last and the only one; rooms of exactly the book and of more."""
+    book = days.Book(kept_files())
+    for date in (20260503, 20260505, 20260507, 20260509):
+        for more in (0, 1, 3, 4, 50):
+            yield withdraw_case(book.to_bytes() + varied_bytes(more), date)
+    for file_bytes in (told_file(DATE), short_file(DATE)):
+        for more in (0, 2, 9):
+            yield withdraw_case(days.Book([file_bytes]).to_bytes() + varied_bytes(more), DATE)
+    for date in (20260501, 20260516, 20260531):
+        yield withdraw_case(short_book(31).to_bytes() + varied_bytes(5), date)
+
+
+def withdraw_absent(rng):
+    """Refusal 22: dates before, between and behind those there, words that are no dates, words that
+    stand elsewhere in the book; from the empty book too."""
+    book = days.Book(kept_files())
+    words = reference.words_of(book.to_bytes())
+    dates = [20260502, 20260504, 20260508, 20260510, 20000101, 20991231, 20250503, 20260603]
+    no_dates = [0, 1, 4, 14, 20260431, 20260503 + (1 << 31), 0x7FFFFFFF, 0x80000000, 0xFFFFFFFF]
+    for date in dates + no_dates + [words[3], words[4]]:
+        yield withdraw_case(book.to_bytes() + varied_bytes(6), date)
+    for date in (0, 1, DATE):
+        for more in (0, 1, 12):
+            yield withdraw_case(days.Book([]).to_bytes() + varied_bytes(more), date)
+
+
+def withdraw_broken_books(rng):
+    """Refusal 20 for each word of a book, before 22, and what is next to it and good."""
+    for room in itertools.chain(broken_books(), twice_broken_books(rng)):
+        yield withdraw_case(room, 20260502)
+    for room in tiny_rooms():
+        yield withdraw_case(room, 0)
+    for book in (short_book(1), short_book(31), days.Book([told_file(20260501)])):
+        for room in short_rooms(book.to_bytes()):
+            yield withdraw_case(room, 20260501)
+            yield withdraw_case(room, 20260601)
+
+
+def withdraw_orders(rng):
+    """All days of a book in every order of three, and each date twice; a day added in between."""
+    dates = (20260503, 20260505, 20260509)
+    book = days.Book([short_file(date, words) for date, words in zip(dates, (4, 7, 40))])
+    for order in itertools.permutations(dates):
+        twice = [date for date in order for _ in range(2)]
+        yield from book_changes(book.to_bytes() + varied_bytes(5), twice)
+    files = [told_file(date) for date in dates]
+    room = days.Book(files).to_bytes()
+    for first, then in itertools.permutations(range(3), 2):
+        steps = [dates[first], files[first], dates[then]]
+        yield from of_call(WITHDRAW_DAY, book_changes(room, steps))
+
+
+def withdraw_full(rng):
+    """The first of 31 settled days."""
+    files = [told_file(date) for date in dates_from(20260501, 31)]
+    yield withdraw_case(days.Book(files).to_bytes() + varied_bytes(2), 20260501)
+
+
+def withdraw_random(rng):
+    """Random books of few days."""
+    for _ in range(12):
+        yield random_withdraw_case(rng, most_days=3)
+
 
 # All groups in the stream's order, each with the call that it makes
 
@@ -2177,6 +2767,34 @@ GROUPS = (
     (RECORDED, recorded_order),
     (RECORDED, recorded_broken_records),
     (RECORDED, recorded_random),
+    (MONTH, month_rooms),
+    (MONTH, month_broken_books),
+    (MONTH, month_order),
+    (MONTH, month_tables),
+    (MONTH, month_statements),
+    (MONTH, month_refused_days),
+    (MONTH, month_unsettled_days),
+    (MONTH, month_behind_13),
+    (MONTH, month_dates),
+    (MONTH, month_one_by_one),
+    (MONTH, month_full),
+    (MONTH, month_random),
+    (ADD_DAY, add_places),
+    (ADD_DAY, add_rooms),
+    (ADD_DAY, add_most_days),
+    (ADD_DAY, add_there),
+    (ADD_DAY, add_refused),
+    (ADD_DAY, add_broken_books),
+    (ADD_DAY, add_orders),
+    (ADD_DAY, add_after_withdrawal),
+    (ADD_DAY, add_full),
+    (ADD_DAY, add_random),
+    (WITHDRAW_DAY, withdraw_places),
+    (WITHDRAW_DAY, withdraw_absent),
+    (WITHDRAW_DAY, withdraw_broken_books),
+    (WITHDRAW_DAY, withdraw_orders),
+    (WITHDRAW_DAY, withdraw_full),
+    (WITHDRAW_DAY, withdraw_random),
 )
 
 
@@ -2222,7 +2840,7 @@ def random_room(rng, file_bytes):
         return room
     if what < 80:
         return max(0, room - between(rng, 1, 3))
-    return min(8192, room + between(rng, 1, 40))
+    return min(MOST_LENT, room + between(rng, 1, 40))
 
 
 def random_lookup_case(rng):
@@ -2286,10 +2904,129 @@ def random_record_case(rng, call):
     return Case(call, room, record_payload(record, file_bytes))
 
 
+def random_rising_dates(rng, count):
+    """Dates that rise: one day after the other, or with gaps up to some days or years."""
+    most = rng.choice((1, 1, 3, 40, 1100))
+    gaps = [between(rng, 1, most) for _ in range(count)]
+    last_start = (reference.date_of(20991231) - reference.FIRST_DAY).days - sum(gaps)
+    date = days.later(20000101, rng.choice((0, last_start, between(rng, 0, last_start))))
+    dates = []
+    for gap in gaps:
+        dates.append(date)
+        date = days.later(date, gap)
+    return dates
+
+
+def random_kept_file(rng, date, short):
+    """A file for a book, with its date: mostly a day that is settled, at times one that settlement or
+    its check refuses; most are of few words if that is asked."""
+    what = rng.randrange(100)
+    if what < 15 or short and what < 85:
+        return short_file(date, rng.choice((4, 4, 5, between(rng, 4, 60))))
+    if what < 30:
+        return unsettled_file(rng.choice(UNSETTLED), date)
+    file_bytes = small_day(rng).to_bytes() if what < 85 else random_file(rng)
+    file_bytes = (file_bytes + bytes(16))[: max(16, len(file_bytes) // 4 * 4)]
+    return with_words(file_bytes, (1, date))
+
+
+def random_book(rng, most_days):
+    few = (0, 1, 2, 2, 3, 3)
+    count = min(most_days, rng.choice(few + few + (4, 5, 8, between(rng, 0, 31), 30, 31)))
+    files, size = [], 0
+    for date in random_rising_dates(rng, count):
+        file_bytes = random_kept_file(rng, date, short=count > 5)
+        size += len(file_bytes)
+        # What is left of the payload is for the contents, the new file and the words behind.
+        if size < MOST_PAYLOAD - 70000:
+            files.append(file_bytes)
+    return days.Book(files)
+
+
+def damaged_book(rng, book, room):
+    """One word of the contents or a day's word 1 changed, or two, or bytes cut off."""
+    if chance(rng, 25):
+        return room[: rng.randrange(len(room) + 1)]
+    telling = list(range(2 + 3 * len(book.files)))
+    telling += [book.file_place(day) + 1 for day in range(len(book.files))]
+    words = reference.book_words(room)
+    telling = [place for place in telling if place < len(words)] or [0]
+    changes = []
+    for _ in range(rng.choice((1, 1, 1, 2))):
+        place = rng.choice(telling)
+        value = rng.choice((damaged_word(rng, words[place]), words[rng.choice(telling)]))
+        changes.append((place, value))
+    return with_words(room, *changes)
+
+
+def random_behind(rng):
+    """What the room has behind a book: nothing, bytes past its last whole word, words."""
+    size = rng.choice((0, 0, 1, 2, 3, 4, 12, between(rng, 0, 400), between(rng, 0, 20000)))
+    return rng.choice((bytes(size), varied_bytes(size)))
+
+
+def random_month_case(rng, most_days=reference.MOST_DAYS):
+    book = random_book(rng, most_days)
+    room = book.to_bytes() + random_behind(rng)
+    if chance(rng, 12):
+        room = damaged_book(rng, book, room)
+    ends = list(itertools.accumulate([needed(file_bytes) for file_bytes in book.files], initial=0))
+    any_end = rng.choice(ends) + rng.choice((-1, 0, 1, between(rng, -99, 99)))
+    lent = rng.choice((ends[-1], ends[-1], ends[-1] + between(rng, 1, 9), any_end, any_end))
+    count = len(book.files)
+    places = count + rng.choice((0, 0, 0, 0, 1, 5))
+    if count and chance(rng, 6):
+        places = rng.choice((count - 1, rng.randrange(count)))
+    return month_case(room, min(MOST_PLACES, places), min(MOST_LENT, max(0, lent)))
+
+
+def random_date_near(rng, book, there):
+    """In so many of a hundred cases a date that the book has, else one next to it or any other."""
+    dates = [reference.words_of(file_bytes)[1] for file_bytes in book.files] or [DATE]
+    date = rng.choice(dates)
+    if chance(rng, there):
+        return date
+    return rng.choice((days.later(date, 1), days.later(date, -1), days.random_date(rng)))
+
+
+def random_add_case(rng, most_days=reference.MOST_DAYS):
+    book = random_book(rng, most_days)
+    new_file = random_file(rng) if chance(rng, 50) else small_day(rng).to_bytes()
+    if len(new_file) >= 8 and chance(rng, 70):
+        new_file = with_words(new_file, (1, random_date_near(rng, book, there=12)))
+    room = roomy(book, new_file)
+    what = rng.randrange(100)
+    if what < 60:
+        room += random_behind(rng)
+    elif what < 80:
+        room = room[: len(room) - rng.choice((1, 2, 3, 4, 8, 12, 16))]
+    else:
+        room = book.to_bytes() + random_behind(rng)
+    if chance(rng, 10):
+        room = damaged_book(rng, book, room)
+    return add_case(room, new_file)
+
+
+def random_withdraw_case(rng, most_days=reference.MOST_DAYS):
+    book = random_book(rng, most_days)
+    room = book.to_bytes() + random_behind(rng)
+    if chance(rng, 12):
+        room = damaged_book(rng, book, room)
+    date = random_date_near(rng, book, there=75)
+    if chance(rng, 8):
+        date = damaged_word(rng, date) & 0xFFFFFFFF
+    return withdraw_case(room, date)
+
 
 def random_case(rng, call):
     if call in (ENTER, RECORDED):
         return random_record_case(rng, call)
+    if call == MONTH:
+        return random_month_case(rng)
+    if call == ADD_DAY:
+        return random_add_case(rng)
+    if call == WITHDRAW_DAY:
+        return random_withdraw_case(rng)
     if call == PRICE:
         return random_price_case(rng)
     if call == SHARE:
@@ -2318,6 +3055,8 @@ def made(calls=None):
 
 def make():
     stream, lines = made()
+    if len(lines) >= MOST_LINES_BYTES:
+        sys.exit("%d bytes of lines are more than rt takes of a program's output." % len(lines))
     INPUT.parent.mkdir(parents=True, exist_ok=True)
     INPUT.write_bytes(stream)
     EXPECTED.write_bytes(lines)

@@ -6,28 +6,19 @@
  * statement, and the rest have guard bytes on both sides. All calls are made by two threads at once, on stacks of 64 KiB that
  * were painted before, so that what they used can be read off. Prints one line; exits 1 at the first difference. */
 #define _DEFAULT_SOURCE
+#include "cases.h"
 #include "rse8080.h"
 
-#include <inttypes.h>
 #include <pthread.h>
-#include <stdio.h>
-#include <stdlib.h>
-#include <string.h>
-#include <sys/mman.h>
 
 #define STACK 65536
 #define PAINT 0xC3
 #define GUARD 64
 #define GUARD_BYTE 0x5A
-#define LENT_BYTE 165
-#define LENT_NUMBER INT64_C(-9000000000000000000)
 #define THREADS 2
 
 struct test {
-    uint32_t call, x;
-    const uint8_t *payload;
-    size_t payload_len;
-    char *line;
+    struct given given;
     uint8_t *file;          /* the payload again, before memory that may not be touched */
     uint8_t *guarded;       /* guard bytes, the statement, guard bytes; or null */
     uint8_t *statement;
@@ -44,58 +35,12 @@ static void fail(const char *what, size_t i)
     exit(1);
 }
 
-static uint32_t word(const uint8_t *p)
-{
-    return (uint32_t)p[0] | (uint32_t)p[1] << 8 | (uint32_t)p[2] << 16 | (uint32_t)p[3] << 24;
-}
-
-static uint8_t *read_all(const char *name, size_t *length)
-{
-    FILE *in = fopen(name, "rb");
-    uint8_t *all = NULL;
-    long size;
-    if (in == NULL || fseek(in, 0, SEEK_END) != 0 || (size = ftell(in)) < 0 || fseek(in, 0, SEEK_SET) != 0) {
-        perror(name);
-        exit(1);
-    }
-    *length = (size_t)size;
-    all = malloc(*length + 1);
-    if (all == NULL || fread(all, 1, *length, in) != *length) {
-        perror(name);
-        exit(1);
-    }
-    all[*length] = 0;
-    fclose(in);
-    return all;
-}
-
-/* `length` bytes that end where memory begins that may not be touched. */
-static uint8_t *fenced(size_t length)
-{
-    size_t page = 4096;
-    size_t body = (length + page - 1) / page * page;
-    uint8_t *start = mmap(NULL, body + page, PROT_READ | PROT_WRITE, MAP_PRIVATE | MAP_ANONYMOUS, -1, 0);
-    if (start == MAP_FAILED || mprotect(start + body, page, PROT_NONE) != 0) {
-        perror("mmap");
-        exit(1);
-    }
-    return start + body - length;
-}
-
-static void put_number(uint8_t *p, int64_t number)
-{
-    int k;
-    for (k = 0; k < 8; k++) {
-        p[k] = (uint8_t)((uint64_t)number >> 8 * k);
-    }
-}
-
 static void lend(struct test *t, size_t i)
 {
+    const struct given *g = &t->given;
     size_t k;
-    t->file = fenced(t->payload_len);
-    memcpy(t->file, t->payload, t->payload_len);
-    t->statement_len = t->call == 2 ? 8 * (size_t)t->x + i % 8 : t->call == 6 ? t->x : 0;
+    t->file = fenced_copy(g->payload, g->payload_len);
+    t->statement_len = g->call == 2 ? 8 * (size_t)g->x + i % 8 : g->call == 6 ? g->x : 0;
     if (i % 2 == 0) {
         t->guarded = malloc(t->statement_len + 2 * GUARD);
         if (t->guarded == NULL) {
@@ -108,7 +53,7 @@ static void lend(struct test *t, size_t i)
         t->statement = fenced(t->statement_len);
     }
     memset(t->statement, LENT_BYTE, t->statement_len);
-    for (k = 0; t->call == 2 && k < t->x; k++) {
+    for (k = 0; g->call == 2 && k < g->x; k++) {
         put_number(t->statement + 8 * k, LENT_NUMBER + (int64_t)k);
     }
 }
@@ -118,7 +63,7 @@ static void *run(void *from)
     size_t i;
     for (i = (size_t)(uintptr_t)from; i < count; i += THREADS) {
         struct test *t = &tests[i];
-        t->answer = rse8080_settle(t->file, t->payload_len, t->statement, t->statement_len);
+        t->answer = rse8080_settle(t->file, t->given.payload_len, t->statement, t->statement_len);
     }
     return NULL;
 }
@@ -162,23 +107,6 @@ static size_t run_all(void)
     return most;
 }
 
-static uint32_t digest(const uint8_t *p, size_t n)
-{
-    uint32_t h = 0;
-    size_t i;
-    for (i = 0; i < n; i++) {
-        h = 31 * h + p[i];
-    }
-    return h;
-}
-
-static uint64_t next_answer(char **line)
-{
-    uint64_t number = strtoull(*line, line, 10);
-    uint64_t place = strtoull(*line, line, 10);
-    return 1000000 * number + place;
-}
-
 /* A file that the check accepts is refused for its room where no byte is lent. */
 static void compare_check(const struct test *t, size_t i, char *line)
 {
@@ -194,12 +122,12 @@ static void compare_settled(const struct test *t, size_t i, char *line)
     if (t->answer != next_answer(&line)) {
         fail("another answer", i);
     }
-    for (k = 0; k < t->x; k++) {
+    for (k = 0; k < t->given.x; k++) {
         if (rse8080_cents(t->statement, k) != strtoll(line, &line, 10)) {
             fail("another number", i);
         }
     }
-    for (k = 8 * (size_t)t->x; k < t->statement_len; k++) {
+    for (k = 8 * (size_t)t->given.x; k < t->statement_len; k++) {
         if (t->statement[k] != LENT_BYTE) {
             fail("a byte behind the last whole number was changed", i);
         }
@@ -218,8 +146,9 @@ static void compare_bytes(const struct test *t, size_t i, char *line)
 
 static void compare(const struct test *t, size_t i)
 {
+    const struct given *g = &t->given;
     size_t k;
-    if (memcmp(t->file, t->payload, t->payload_len) != 0) {
+    if (memcmp(t->file, g->payload, g->payload_len) != 0) {
         fail("the file was changed", i);
     }
     for (k = 0; t->guarded != NULL && k < GUARD; k++) {
@@ -227,12 +156,12 @@ static void compare(const struct test *t, size_t i)
             fail("a guard byte was changed", i);
         }
     }
-    if (t->call == 1) {
-        compare_check(t, i, t->line);
-    } else if (t->call == 2) {
-        compare_settled(t, i, t->line);
+    if (g->call == 1) {
+        compare_check(t, i, g->line);
+    } else if (g->call == 2) {
+        compare_settled(t, i, g->line);
     } else {
-        compare_bytes(t, i, t->line);
+        compare_bytes(t, i, g->line);
     }
 }
 
@@ -249,38 +178,20 @@ static void empty(void)
 
 int main(int argc, char **argv)
 {
-    size_t length, lines_length, at, i, used;
-    size_t settled = 0;
-    uint8_t *stream;
-    char *line;
-    if (argc != 3) {
-        fprintf(stderr, "usage: vectors STREAM LINES\n");
-        return 2;
-    }
-    stream = read_all(argv[1], &length);
-    line = (char *)read_all(argv[2], &lines_length);
-    tests = calloc(length / 16 + 1, sizeof *tests);
+    struct stream stream = open_stream(argc, argv);
+    struct given given;
+    size_t i, used, settled = 0;
+    tests = calloc(stream.length / 16 + 1, sizeof *tests);
     if (tests == NULL) {
         perror("calloc");
         return 1;
     }
-    for (at = 0; at + 16 <= length; at += 16 + word(stream + at + 12)) {
-        char *end = strchr(line, '\n');
-        uint32_t call = word(stream + at);
-        if (end == NULL || at + 16 + word(stream + at + 12) > length) {
-            fprintf(stderr, "tests/host: the stream and its lines do not match\n");
-            return 1;
+    while (next_case(&stream, &given)) {
+        if (given.call == 1 || given.call == 2 || given.call == 6) {
+            tests[count].given = given;
+            lend(&tests[count], count);
+            count++;
         }
-        if (call == 1 || call == 2 || call == 6) {
-            struct test *t = &tests[count];
-            t->call = call;
-            t->x = word(stream + at + 4);
-            t->payload = stream + at + 16;
-            t->payload_len = word(stream + at + 12);
-            t->line = line;
-            lend(t, count++);
-        }
-        line = end + 1;
     }
     empty();
     used = run_all();

@@ -13,7 +13,7 @@ use Rattle.contents.specs.File.{editionOf, areasOf, numberAt, numberBefore}
 use Rattle.contents.specs.BodyPart.{bodyPart}
 use Rattle.dayfile.specs.Check.{checkOf, checkWithin}
 use Rattle.dayfile.specs.Lookup.{nothing, partFrom, lookupOf}
-use Rattle.dayfile.proofs.Facts.{file-entry}
+use Rattle.dayfile.proofs.Facts.{within-limits, file-entry}
 use Rattle.acceptance.specs.LookedUp.{LookedUp}
 
 module _ (file : List ℕ) (area : ℕ) where
@@ -21,8 +21,7 @@ module _ (file : List ℕ) (area : ℕ) where
 
   module _ (accepted : numberOf (checkOf file) ≡ 0) where
     within : numberOf (checkWithin (limitsOf (editionOf file)) file) ≡ 0
-    unfolding checkOf
-    within = accepted
+    within = within-limits file accepted
 
     rises : (k : ℕ) → suc k < areasOf file → numberAt file k < numberAt file (suc k)
     unfolding numberBefore

@@ -11,7 +11,7 @@ use borrow.Author.Tests.{leb-true, eqb-true}
 use Rattle.words.specs.Word.{wordAt}
 use Rattle.limits.specs.declared.Limits.{Limits}
 use Rattle.limits.specs.Ranges.{peakWord}
-use Rattle.limits.specs.Editions.{editionKnown, KnownEdition, bytesAllowed, WithinBytes}
+use Rattle.limits.specs.Editions.{limitsOf, editionKnown, KnownEdition, bytesAllowed, WithinBytes}
 use Rattle.limits.proofs.Editions.{bytes-within}
 use Rattle.calendar.specs.Date.{realDate}
 use Rattle.verdict.specs.Verdict.{numberOf}
@@ -21,9 +21,9 @@ use Rattle.exact.proofs.Lending.{part-length}
 use Rattle.body.specs.Layout.{kindOf}
 use Rattle.body.specs.Check.{bodyRule}
 use Rattle.body.proofs.Rules.{one-ciso}
-use Rattle.contents.specs.File.{numberAt, startAt, sizeAt, numberBefore, dueAt, bodyAt}
+use Rattle.contents.specs.File.{editionOf, numberAt, startAt, sizeAt, numberBefore, dueAt, bodyAt}
 use Rattle.dayfile.specs.Ciso.{cisoBefore}
-use Rattle.dayfile.specs.Check.{fileHeadRule, fileHeadOf, contentsRule, bodiesRule, bodyRuleAt, checkWithin}
+use Rattle.dayfile.specs.Check.{fileHeadRule, fileHeadOf, contentsRule, bodiesRule, bodyRuleAt, checkWithin, checkOf}
 use Rattle.dayfile.proofs.Entries.{Entry, entry}
 
 either : (a b : Bool) → (a || b) ≡ true → (a ≡ true) ⊎ (b ≡ true)
@@ -67,6 +67,11 @@ pub record Length (limits : Limits) (bytes : ℕ) : Type 0 where
   pub least : 16 ≤ bytes
   pub most-bytes : WithinBytes limits bytes
   pub whole : bytes % 4 ≡ 0
+
+-- the check is the check within the limits that the file's first word sets
+pub within-limits : (file : List ℕ) → numberOf (checkOf file) ≡ 0 → numberOf (checkWithin (limitsOf (editionOf file)) file) ≡ 0
+unfolding checkOf
+within-limits file z = z
 
 module _ (limits : Limits) (file : List ℕ) (accepted : numberOf (checkWithin limits file) ≡ 0) where
   opened : Length limits (length file)

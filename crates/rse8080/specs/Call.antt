@@ -1,12 +1,12 @@
 -- "The C call takes file bytes and statement bytes (8 little-endian bytes a number) and returns number × 1,000,000 + place.
 -- Bytes past the last whole number don't count and stay."
-use Prim.Native.Nat.{ℕ, _+_, _*_, _/_}
+use Prim.Native.Nat.{ℕ, _*_, _/_}
 use mathlib.Core.Bool.{cond}
 use mathlib.Core.List.{List, _++_}
 use lib.Dec.{eqb}
 use lib.ListN.{length, drop}
 use Rattle.verdict.specs.declared.Verdict.{Verdict}
-use Rattle.verdict.specs.Verdict.{numberOf, placeOf}
+use Rattle.verdict.specs.Verdict.{numberOf}
 use Rattle.encoding.specs.Encoding.{encoded}
 use Rattle.contents.specs.File.{areasOf}
 use Rattle.settlement.specs.Settlement.{numbersNeeded, statementTo, daysBy, ownDays, settleOf}
@@ -14,9 +14,6 @@ use Rattle.settlement.specs.Settlement.{numbersNeeded, statementTo, daysBy, own
 -- the verdict: a statement of so many bytes has room for an eighth as many numbers
 abbrev pub verdictOf : List ℕ → List ℕ → Verdict
 verdictOf file statement = settleOf file (length statement / 8)
-
-unfoldable pub coded : Verdict → ℕ
-coded verdict = numberOf verdict * 1000000 + placeOf verdict
 
 -- the statement bytes afterwards: those of the settled statement and then what stood behind them, or after a refusal all as they were
 unfoldable pub bytesAfter : Verdict → List ℕ → List ℕ → List ℕ

@@ -1,23 +1,15 @@
 // Settles a day file for a host written in C. The statement is bytes, eight little-endian bytes a number, two's complement.
 use surcharge::Terms;
-use verdict::Verdict;
 ghost use mathlib.Core.Path.{_≡_};
 ghost use mathlib.Core.List.{_++_};
 ghost use Prim.Native.Nat.{_*_, _≤_};
 ghost use lib.ListN.{length, drop};
-ghost use Rattle.verdict.specs.Verdict.{placeOf};
+ghost use Rattle.verdict.specs.Verdict.{coded};
 ghost use Rattle.encoding.specs.Encoding.{encoded};
 ghost use Rattle.contents.specs.File.{areasOf};
 ghost use Rattle.settlement.specs.SoundFile.{SoundFile, DaysKept};
-ghost use Rattle.settlement.specs.Settlement.{neededTo, statementTo, daysBy, ownDays, mostPlace};
-ghost use Rattle.rse8080.specs.Call.{verdictOf, coded, bytesAfter};
-
-fn code(answer: Verdict) -> u64
-    requires { ⌜ placeOf answer ≤ mostPlace ⌝ }
-    ensures { λ r. ⌜ r ≡ coded answer ⌝ }
-{
-    1000000 * (verdict::number(answer) as u64) + (verdict::place(answer) as u64)
-}
+ghost use Rattle.settlement.specs.Settlement.{neededTo, statementTo, daysBy, ownDays};
+ghost use Rattle.rse8080.specs.Call.{verdictOf, bytesAfter};
 
 // The areas of a file, each lent its own part of the statement and settled with its own d.
 fn put_areas(file: &[u8], bytes: &mut [u8])
@@ -51,8 +43,8 @@ pub extern "C" fn rse8080_settle(file: &[u8], statement: &mut [u8]) -> u64
 {
     let answer = settlement::answer(file, statement.len() / 8);
     if verdict::number(answer) != 0 {
-        return code(answer);
+        return verdict::code(answer);
     }
     put_areas(file, statement);
-    code(answer)
+    verdict::code(answer)
 }

@@ -2,7 +2,7 @@
 use Prim.Native.Nat.{ℕ, zero, suc, _+_, _*_, _-_, _/_, _≤_, _<_}
 use mathlib.Core.List.{List}
 use mathlib.Core.Logic.{dite}
-use mathlib.Core.Path.{_≡_}
+use mathlib.Core.Path.{_≡_, ap}
 use mathlib.Core.Bool.{Bool, true, false, cond, not}
 use native.Mathlib.Decide.{ℕ-discrete, decLe}
 use native.Mathlib.Omega.{arith}
@@ -28,7 +28,7 @@ use Rattle.surcharge.specs.declared.Terms.{Terms}
 use Rattle.amounts.specs.Amounts.{priceAnswerAt, priceNeeded, priceRule}
 use Rattle.statement.specs.Block.{areaNumbers}
 use Rattle.settlement.specs.Settlement.{mostNumbers, mostPlace, neededTo, numbersNeeded, termsAt, chargeable, chargeRule, hourRefusal}
-use Rattle.settlement.specs.Settlement.{hoursRefusal, areaRefusal, areasRefusal, acceptedRule, settleWith}
+use Rattle.settlement.specs.Settlement.{hoursRefusal, areaRefusal, areasRefusal, acceptedRule, settleWith, daysBy, ownDays, settleOf}
 use Rattle.settlement.proofs.Accepted.{within, sound-file}
 
 -- K of an area is 1, and more where it is CISO
@@ -122,3 +122,7 @@ pub settle-place : (days : ℕ → ℕ) (file : List ℕ) (room : ℕ) → place
 unfolding settleWith
 settle-place days file room =
     or-holds Small (checkOf file) (acceptedRule days file room) (record { holds = check-small file }) (λ z. accepted-rule-small file z days room) .holds
+
+-- so that number and place can be told from the coded answer
+pub place-coded : (file : List ℕ) (room : ℕ) (answer : Verdict) → answer ≡ settleOf file room → placeOf answer < 1000000
+place-coded file room answer is = omega (arith, ap placeOf is, settle-place (daysBy ownDays file) file room)

@@ -12,11 +12,11 @@ ghost use lib.ListN.{length};
 ghost use Rattle.sharing.specs.Rows.{rowsByValue};
 ghost use Rattle.record_words.specs.Words.{recordWords};
 
-// Room for a payload: more than the longest file that is not refused for its length.
-fn payload_room() -> [u8; 66000]
-    ensures { λ r. ⌜ 66000 ≡ length r ⌝ }
+// Room for a payload: a month book of many days.
+fn payload_room() -> [u8; 262144]
+    ensures { λ r. ⌜ 262144 ≡ length r ⌝ }
 {
-    [0; 66000]
+    [0; 262144]
 }
 
 // Room for a statement, in numbers: more than the longest needs.
@@ -258,7 +258,92 @@ fn settle_recorded(payload: &[u8], x: usize) -> bool {
     true
 }
 
-fn call(number: u32, x: u32, payload: &[u8]) -> bool {
+// Place i that is lent of a table.
+fn lent_place(i: usize) -> u64
+    requires { ⌜ i < 65536 ⌝ }
+{
+    9000000000000000000 + (i as u64)
+}
+
+fn fill_table(table: &mut [u64])
+    requires { ⌜ length (now table) ≤ 64 ⌝ }
+{
+    let mut i: usize = 0;
+    while i < table.len() {
+        table[i] = lent_place(i);
+        i += 1;
+    }
+}
+
+fn show_table(table: &[u64]) {
+    let mut i: usize = 0;
+    while i < table.len() {
+        show::space();
+        show::unsigned(table[i]);
+        i += 1;
+    }
+}
+
+fn settle_month_into(book: &[u8], statement: &mut [i64], table: &mut [u64])
+    requires { ⌜ (length (now statement) ≤ 8192) × (length (now table) ≤ 64) ⌝ }
+{
+    fill_lent(statement);
+    fill_table(table);
+    show_verdict(month::settle_month(book, statement, table));
+    show_table(table);
+    show::numbers(statement);
+}
+
+fn settle_month(payload: &[u8], x: usize) -> bool {
+    if payload.len() < 4 {
+        return bad_case();
+    }
+    let places = words::word(payload, 0) as usize;
+    if 64 < places {
+        return bad_case();
+    }
+    if 8192 < x {
+        return bad_case();
+    }
+    let mut statement = statement_room();
+    let mut table = [0u64; 64];
+    settle_month_into(&payload[4..], &mut statement[..x], &mut table[..places]);
+    true
+}
+
+fn add_day_into(book: &mut [u8], file: &[u8]) {
+    show_verdict(keeping::add_day(book, file));
+    show::space();
+    show::unsigned(digest(book));
+    show::end();
+}
+
+// The book is copied out of the payload, so that the file stays beside it.
+fn add_day(payload: &[u8]) -> bool {
+    if payload.len() < 4 {
+        return bad_case();
+    }
+    let bytes = words::word(payload, 0) as usize;
+    if 262144 < bytes {
+        return bad_case();
+    }
+    if payload.len() - 4 < bytes {
+        return bad_case();
+    }
+    let mut room = payload_room();
+    moving::copy_in(&mut room, 0, &payload[4..4 + bytes]);
+    add_day_into(&mut room[..bytes], &payload[4 + bytes..]);
+    true
+}
+
+fn withdraw_day(book: &mut [u8], date: u32) {
+    show_verdict(keeping::withdraw_day(book, date));
+    show::space();
+    show::unsigned(digest(book));
+    show::end();
+}
+
+fn call(number: u32, x: u32, payload: &mut [u8]) -> bool {
     if number == 1 {
         check(payload);
         return true;
@@ -286,6 +371,16 @@ fn call(number: u32, x: u32, payload: &[u8]) -> bool {
     if number == 8 {
         return settle_recorded(payload, x as usize);
     }
+    if number == 9 {
+        return settle_month(payload, x as usize);
+    }
+    if number == 10 {
+        return add_day(payload);
+    }
+    if number == 11 {
+        withdraw_day(payload, x);
+        return true;
+    }
     bad_case()
 }
 
@@ -305,7 +400,7 @@ fn case() -> bool {
         return false;
     }
     let payload = words::word(&head, 3) as usize;
-    if 66000 < payload {
+    if 262144 < payload {
         return bad_case();
     }
     let mut room = payload_room();

@@ -1,10 +1,10 @@
 -- The refusal table (docs/RULES.md, sections 10 and 11): the number and the place of each case.
-use Prim.Native.Nat.{ℕ}
+use Prim.Native.Nat.{ℕ, _+_, _*_}
 use Rattle.verdict.specs.declared.Verdict.{Verdict}
 use Rattle.verdict.specs.declared.Verdict.the-variants.{Accepted, BadLength, BadEdition, BadAreaCount, BadDate, BadPeakHours, BadContents}
 use Rattle.verdict.specs.declared.Verdict.the-variants.{BadBodyHead, BadCoordinator, OutOfRange, RunningDemandTooLarge, PriceWithoutQuantity}
 use Rattle.verdict.specs.declared.Verdict.the-variants.{AmountWithoutDemand, RoomTooShort, BadRecord, AmountBeyondRange, TooFewIntervals}
-use Rattle.verdict.specs.declared.Verdict.the-variants.{DayNotAfter, TooManyAreas}
+use Rattle.verdict.specs.declared.Verdict.the-variants.{DayNotAfter, TooManyAreas, BadBook, DaysDoNotFit, DateThereOrAbsent}
 
 abbrev pub numberOf : Verdict → ℕ
 numberOf Accepted = 0
@@ -26,6 +26,9 @@ numberOf AmountBeyondRange = 15
 numberOf (TooFewIntervals place) = 16
 numberOf DayNotAfter = 18
 numberOf TooManyAreas = 19
+numberOf (BadBook word) = 20
+numberOf DaysDoNotFit = 21
+numberOf DateThereOrAbsent = 22
 
 abbrev pub placeOf : Verdict → ℕ
 placeOf Accepted = 0
@@ -47,3 +50,10 @@ placeOf AmountBeyondRange = 0
 placeOf (TooFewIntervals place) = place
 placeOf DayNotAfter = 0
 placeOf TooManyAreas = 0
+placeOf (BadBook word) = word
+placeOf DaysDoNotFit = 0
+placeOf DateThereOrAbsent = 0
+
+-- "number × 1,000,000 + place"
+unfoldable pub coded : Verdict → ℕ
+coded verdict = numberOf verdict * 1000000 + placeOf verdict

@@ -1,6 +1,7 @@
 // The answer of every call: accepted, or the rule of docs/RULES.md that is broken, with its place.
 ghost use mathlib.Core.Path.{_≡_};
-ghost use Rattle.verdict.specs.Verdict.{numberOf, placeOf};
+ghost use Prim.Native.Nat.{_<_};
+ghost use Rattle.verdict.specs.Verdict.{numberOf, placeOf, coded};
 
 // A case for each refusal of docs/RULES.md, in the order of their numbers. Each case's number and place are those of specs/Verdict.antt.
 pub enum Verdict {
@@ -23,6 +24,9 @@ pub enum Verdict {
     TooFewIntervals { place: usize },
     DayNotAfter,
     TooManyAreas,
+    BadBook { word: usize },
+    DaysDoNotFit,
+    DateThereOrAbsent,
 }
 
 // The number of the refusal (docs/RULES.md, section 10); 0 where nothing is refused.
@@ -49,6 +53,9 @@ pub fn number(verdict: Verdict) -> u32
         Verdict::TooFewIntervals { place: _ } => 16,
         Verdict::DayNotAfter => 18,
         Verdict::TooManyAreas => 19,
+        Verdict::BadBook { word: _ } => 20,
+        Verdict::DaysDoNotFit => 21,
+        Verdict::DateThereOrAbsent => 22,
     }
 }
 
@@ -76,5 +83,16 @@ pub fn place(verdict: Verdict) -> usize
         Verdict::TooFewIntervals { place } => place,
         Verdict::DayNotAfter => 0,
         Verdict::TooManyAreas => 0,
+        Verdict::BadBook { word } => word,
+        Verdict::DaysDoNotFit => 0,
+        Verdict::DateThereOrAbsent => 0,
     }
+}
+
+// The answer as one number, from which both can be told. Every place that is coded is below 1,000,000.
+pub fn code(verdict: Verdict) -> u64
+    requires { ⌜ placeOf verdict < 1000000 ⌝ }
+    ensures { λ r. ⌜ r ≡ coded verdict ⌝ }
+{
+    1000000 * (number(verdict) as u64) + (place(verdict) as u64)
 }

@@ -14,6 +14,7 @@ low-byte b q w h e = omega arith
 
 unpacked : (a b d e w : ℕ) → a < 256 → b < 256 → d < 256 → e < 256 → w ≡ a + 256 * b + 65536 * d + 16777216 * e → wordBytes w ≡ a ∷ b
     ∷ d ∷ e ∷ []
+unfolding wordBytes
 unpacked a b d e w ha hb hd he is =
     let one : w / 256 ≡ b + 256 * (d + 256 * e) = omega arith in
     let two : w / 65536 ≡ d + 256 * e = omega arith in
@@ -41,7 +42,7 @@ module _ (bytes : List ℕ) (small : Below 256 bytes) where
         drop-cons bytes (suc (suc (suc j))) 0 (omega arith),
       )
 
-  word-bytes : (i : ℕ) → 4 * i + 4 ≤ length bytes → wordBytes (wordAt bytes i) ≡ take 4 (drop (4 * i) bytes)
+  pub word-bytes : (i : ℕ) → 4 * i + 4 ≤ length bytes → wordBytes (wordAt bytes i) ≡ take 4 (drop (4 * i) bytes)
   unfolding wordAt
   word-bytes i h =
       unpacked _ _ _ _ (wordAt bytes i) (small .each (4 * i) (omega arith)) (small .each (4 * i + 1) (omega arith)) (small .each (4 * i + 2) (omega arith))

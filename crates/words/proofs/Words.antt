@@ -26,8 +26,12 @@ module _ (xs ys : List ℕ) where
         byte-behind (4 * m) (4 * (m + i) + 3) (4 * i + 3) long (omega arith),
       )
 
+pub word-long : (w : ℕ) → length (wordBytes w) ≡ 4
+unfolding wordBytes
+word-long w = refl
+
 pub words-length : (words : List ℕ) → length (wordsBytes words) ≡ 4 * length words
-unfolding wordsBytes
+unfolding wordsBytes wordBytes
 words-length [] = refl
 words-length (w ∷ words) = length-append (wordBytes w) (wordsBytes words) ∙ omega (arith, words-length words)
 
@@ -39,12 +43,21 @@ packed w h =
     omega (arith, one, two, three)
 
 first-word : (w : ℕ) (ys : List ℕ) → w < 4294967296 → wordAt (wordBytes w ++ ys) 0 ≡ w
-unfolding wordAt
+unfolding wordAt wordBytes
 first-word w ys h = packed w h
+
+-- a word that stands behind the first i words
+pub word-there : (bytes front : List ℕ) (w : ℕ) (rest : List ℕ) (i : ℕ) → bytes ≡ front ++ (wordBytes w ++ rest) → length front ≡ 4 * i → w < 4294967296
+    → wordAt bytes i ≡ w
+word-there bytes front w rest i stands at h =
+    ap (λ b. wordAt b i) stands
+    ∙ ap (wordAt (front ++ (wordBytes w ++ rest))) (sym (add-zero i))
+    ∙ word-behind front (wordBytes w ++ rest) i 0 at
+    ∙ first-word w rest h
 
 -- the words that were written out stand there
 pub word-written : (words rest : List ℕ) (i : ℕ) → Below 4294967296 words → i < length words → wordAt (wordsBytes words ++ rest) i ≡ getD words i 0
-unfolding wordsBytes
+unfolding wordsBytes wordBytes
 word-written [] rest i small h = absurd (omega arith)
 word-written (w ∷ words) rest zero small h = first-word w (wordsBytes words ++ rest) (small .each 0 h)
 word-written (w ∷ words) rest (suc i) small h =

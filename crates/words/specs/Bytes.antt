@@ -6,7 +6,7 @@ use lib.ListN.{length, getD, set}
 use Rattle.words.specs.Word.{wordAt}
 
 -- the four bytes of a word, the lowest first
-abbrev pub wordBytes : ℕ → List ℕ
+unfoldable pub wordBytes : ℕ → List ℕ
 wordBytes w = w % 256 ∷ w / 256 % 256 ∷ w / 65536 % 256 ∷ w / 16777216 % 256 ∷ []
 
 unfoldable pub wordsBytes : List ℕ → List ℕ

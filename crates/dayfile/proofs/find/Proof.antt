@@ -18,7 +18,7 @@ use Rattle.contents.specs.BodyPart.{bodyPart}
 use Rattle.dayfile.specs.Check.{checkOf, checkWithin}
 use Rattle.dayfile.specs.Lookup.{nothing, partFrom}
 use Rattle.dayfile.proofs.Lookup.{at-start}
-use Rattle.dayfile.proofs.Facts.{file-head, file-entry}
+use Rattle.dayfile.proofs.Facts.{within-limits, file-head, file-entry}
 use Rattle.dayfile.proofs.find.Statement.{statement}
 use Rattle.dayfile.proofs.find.Tie as tie
 
@@ -50,8 +50,7 @@ none file area k n h =
     rw e
 
 accepted : (s : tie.Start Inv-loop μ-loop) → let f = now (s .args .file) in numberOf (checkWithin (limitsOf (editionOf f)) f) ≡ 0
-unfolding checkOf
-accepted s = s .pre
+accepted s = within-limits (now (s .args .file)) (s .pre)
 
 contents : (s : tie.Start Inv-loop μ-loop) → 4 + 3 * wordAt (now (s .args .file)) 2 ≤ length (now (s .args .file)) / 4
 contents s = file-head _ (now (s .args .file)) (accepted s) .room

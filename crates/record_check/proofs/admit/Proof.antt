@@ -10,7 +10,7 @@ use Rattle.verdict.specs.First.{_orElse_}
 use Rattle.verdict.proofs.First.{seq-next, seq-stop}
 use Rattle.contents.specs.File.{editionOf, dayOf}
 use Rattle.dayfile.specs.Check.{checkOf, checkWithin}
-use Rattle.dayfile.proofs.Facts.{file-head}
+use Rattle.dayfile.proofs.Facts.{within-limits, file-head}
 use Rattle.recording.specs.declared.Record.{Record}
 use Rattle.record_check.specs.Left.{recordRule, admitRule}
 use Rattle.record_check.proofs.admit.Statement.{statement}
@@ -19,10 +19,6 @@ use Rattle.record_check.proofs.admit.Tie as tie
 opened : (r : Record) (file : List ℕ) → admitRule r file ≡ (checkOf file orElse recordRule r (dayOf file))
 unfolding admitRule
 opened r file = refl
-
-within : (file : List ℕ) → numberOf (checkOf file) ≡ 0 → numberOf (checkWithin (limitsOf (editionOf file)) file) ≡ 0
-unfolding checkOf
-within file z = z
 
 returns : tie.Need-returns
 returns c =
@@ -33,7 +29,7 @@ word-requires : tie.Need-word-requires
 word-requires c κs =
     let f = now (c .before .before .before .before .args .file) in
     let accepted = sym (ap numberOf (c .before .before .check .ensures)) ∙ sym (c .before .number .ensures) ∙ c .if1 .left in
-    let r = file-head _ f (within f accepted) .room in
+    let r = file-head _ f (within-limits f accepted) .room in
     omega arith
 
 returns-2 : tie.Need-returns-2

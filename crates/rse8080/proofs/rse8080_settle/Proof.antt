@@ -1,25 +1,22 @@
 use borrow.Author.Needs.{needs}
 use denote.Ref.{now}
-use Prim.Native.Nat.{ℕ, _*_, _/_, _≤_}
+use Prim.Native.Nat.{ℕ, _*_, _/_}
 use mathlib.Core.List.{List, _++_}
 use mathlib.Core.Path.{_≡_, sym, ap, _∙_}
 use native.Mathlib.Omega.{arith}
 use lib.ListN.{length, drop}
 use borrow.Author.Tests.{eq-eqb, ne-eqb}
 use Rattle.verdict.specs.declared.Verdict.{Verdict}
-use Rattle.verdict.specs.Verdict.{numberOf, placeOf}
+use Rattle.verdict.specs.Verdict.{numberOf, coded}
 use Rattle.encoding.specs.Encoding.{encoded}
 use Rattle.contents.specs.File.{areasOf}
-use Rattle.settlement.specs.Settlement.{mostPlace, numbersNeeded, statementTo, daysBy, ownDays}
+use Rattle.settlement.specs.Settlement.{numbersNeeded, statementTo, daysBy, ownDays}
 use Rattle.settlement.proofs.Accepted.{sound-file, own-kept}
-use Rattle.settlement.proofs.Places.{settle-place}
+use Rattle.settlement.proofs.Places.{place-coded}
 use Rattle.settlement.proofs.Room.{check-accepts, room-enough}
-use Rattle.rse8080.specs.Call.{verdictOf, coded, bytesAfter}
+use Rattle.rse8080.specs.Call.{verdictOf, bytesAfter}
 use Rattle.rse8080.proofs.rse8080_settle.Statement.{statement}
 use Rattle.rse8080.proofs.rse8080_settle.Tie as tie
-
-small : (file bytes : List ℕ) (answer : Verdict) → answer ≡ verdictOf file bytes → placeOf answer ≤ mostPlace
-small file bytes answer is = rw is (settle-place (daysBy ownDays file) file (length bytes / 8))
 
 stay : (file bytes : List ℕ) (answer : Verdict) → answer ≡ verdictOf file bytes → (numberOf answer ≡ 0 → ⊥)
     → bytes ≡ bytesAfter (verdictOf file bytes) file bytes
@@ -38,7 +35,7 @@ accepted : (c : tie.Else1) → let s = start (c .before) .args in numberOf (verd
 accepted c = ap numberOf (sym (c .before .before .answer .ensures)) ∙ sym (c .before .number .ensures) ∙ c .if1 .left
 
 code-requires : tie.Need-code-requires
-code-requires c κs = let s = start (c .before) .args in small (now (s .file)) (now (s .statement)) _ (c .before .before .answer .ensures)
+code-requires c κs = let s = start (c .before) .args in place-coded (now (s .file)) (length (now (s .statement)) / 8) _ (c .before .before .answer .ensures)
 
 returns : tie.Need-returns
 returns c =
@@ -59,7 +56,7 @@ code-requires-2 : tie.Need-code-requires-2
 code-requires-2 c κs =
     let n = c .before .before .before .before .before in
     let s = start n .args in
-    small (now (s .file)) (now (s .statement)) _ (n .before .answer .ensures)
+    place-coded (now (s .file)) (length (now (s .statement)) / 8) _ (n .before .answer .ensures)
 
 returns-2 : tie.Need-returns-2
 returns-2 c =

@@ -1,8 +1,8 @@
 use borrow.Author.Needs.{needs}
 use native.Mathlib.Omega.{arith}
-use Rattle.rse8080.specs.Call.{coded}
-use Rattle.rse8080.proofs.code.Statement.{statement}
-use Rattle.rse8080.proofs.code.Tie as tie
+use Rattle.verdict.specs.Verdict.{coded}
+use Rattle.verdict.proofs.code.Statement.{statement}
+use Rattle.verdict.proofs.code.Tie as tie
 
 add-result : tie.Need-add-result
 add-result c = omega (arith, c .place .ensures)

@@ -1,0 +1,10 @@
+pub mod Good
+pub mod ReadBack
+pub mod Judged
+pub mod Lists
+pub mod Ends
+pub mod Stands
+pub mod AddedDay
+pub mod WithdrawnDay
+pub mod WithdrawnAgain
+pub mod AnyOrder

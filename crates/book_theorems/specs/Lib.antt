@@ -1,0 +1,2 @@
+pub mod ByDays
+pub mod Order

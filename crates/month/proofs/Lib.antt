@@ -1,0 +1,3 @@
+pub mod OneDay
+pub mod Days
+pub mod Rule

@@ -995,19 +995,29 @@ def record_figures():
         yield "d %d on %d" % (d, date), due, (number, place, statement[2 * HOUR_OF_ONE + 1])
 
 
-def month_figures():
-    """Document 02, §5: Case P and the day after it in one book, added in the other order. Case P is
-    refused with 16 and leaves its part as it was, the day after it has its part behind that: U 40, Q 60,
-    price 25 and d 0 in hour ending 3. Then Case P is withdrawn.
-    """
+def day_after_case_p():
+    """The day after Case P with every price: U 40, Q 60, price 25 and d 0 in hour ending 3."""
     import days
 
     area = days.quiet_area(number=7, kind=0, load_points=1, coordinators=[12])
     hour = area.hours[2]
     hour.energy_up, hour.requirement, hour.pairs = 40000, 60000, [(1000, 250000)] * 12
-    day_after = days.Day(20260505, PEAK_WORD, [area]).to_bytes()
+    return days.Day(20260505, PEAK_WORD, [area]).to_bytes()
+
+
+def room_for_two(behind):
+    """A book without days, and room for Case P and the day after it."""
+    return struct.pack("<2i", 1, 0) + bytes(4 * (6 + 2 * 807)) + behind
+
+
+def month_figures():
+    """Document 02, §5: Case P and the day after it in one book, added in the other order. Case P is
+    refused with 16 and leaves its part as it was, the day after it has its part behind that. Then Case P
+    is withdrawn.
+    """
+    day_after = day_after_case_p()
     behind = bytes([165]) * 30
-    room = struct.pack("<2i", 1, 0) + bytes(4 * (6 + 2 * 807)) + behind
+    room = room_for_two(behind)
     for file_bytes in (day_after, case_p()):
         number, place, room = add_day(room, file_bytes)
         assert (number, place) == (0, 0)
@@ -1020,6 +1030,8 @@ def month_figures():
     off_peak_amounts = statement[2 * HOUR_OF_ONE + 1 : 2 * DAY_OF_ONE : DAY_OF_ONE]
     yield "hour ending 3 of each day, off-peak", [-1, 200000], off_peak_amounts
     yield "what is behind the parts", [-1] * 12, statement[2 * DAY_OF_ONE :]
+    _, _, _, table = settle_month(room, [-1] * 143, [-1] * 2)
+    yield "the table, a number short of the first day", [13000144, 13000144], table
 
     number, place, room = withdraw_day(room, 20260504)
     contents = (0, 0, (1, 1, 20260505, 5, 807))

@@ -2464,6 +2464,25 @@ def month_full(rng):
     yield month_case(room + varied_bytes(MOST_PAYLOAD - 4 - len(room)), 5, MOST_LENT)
 
 
+def format_page_rooms():
+    """The room of the book in docs/FORMAT.md, its two days added in either order: before and after
+    each of the additions, with the file that is added."""
+    both = [reference.case_p(), reference.day_after_case_p()]
+    for files in (both, both[::-1]):
+        room = reference.room_for_two(varied_bytes(30))
+        for file_bytes in files:
+            before = room
+            _, _, room = reference.add_day(room, file_bytes)
+            yield before, file_bytes, room
+
+
+def month_format_page(rng):
+    """The book of docs/FORMAT.md, in room for more than its days and a number short of the first."""
+    *_, (_, _, room) = format_page_rooms()
+    yield month_case(room, 3, 300)
+    yield month_case(room, 2, 143)
+
+
 def month_random(rng):
     """Random books of few days."""
     for _ in range(12):
@@ -2513,6 +2532,12 @@ def add_places(rng):
         new_file = told_file(DATE, *shapes)
         for behind in (b"", varied_bytes(21)):
             yield add_case(roomy(days.Book([]), new_file, behind), new_file)
+
+
+def add_format_page(rng):
+    """The two days of docs/FORMAT.md, in either order."""
+    for room, file_bytes, _ in format_page_rooms():
+        yield add_case(room, file_bytes)
 
 
 def add_rooms(rng):
@@ -2637,6 +2662,12 @@ def withdraw_places(rng):
             yield withdraw_case(days.Book([file_bytes]).to_bytes() + varied_bytes(more), DATE)
     for date in (20260501, 20260516, 20260531):
         yield withdraw_case(short_book(31).to_bytes() + varied_bytes(5), date)
+
+
+def withdraw_format_page(rng):
+    """Case P out of the book of docs/FORMAT.md."""
+    *_, (_, _, room) = format_page_rooms()
+    yield withdraw_case(room, 20260504)
 
 
 def withdraw_absent(rng):
@@ -2777,9 +2808,11 @@ GROUPS = (
     (MONTH, month_behind_13),
     (MONTH, month_dates),
     (MONTH, month_one_by_one),
+    (MONTH, month_format_page),
     (MONTH, month_full),
     (MONTH, month_random),
     (ADD_DAY, add_places),
+    (ADD_DAY, add_format_page),
     (ADD_DAY, add_rooms),
     (ADD_DAY, add_most_days),
     (ADD_DAY, add_there),
@@ -2790,6 +2823,7 @@ GROUPS = (
     (ADD_DAY, add_full),
     (ADD_DAY, add_random),
     (WITHDRAW_DAY, withdraw_places),
+    (WITHDRAW_DAY, withdraw_format_page),
     (WITHDRAW_DAY, withdraw_absent),
     (WITHDRAW_DAY, withdraw_broken_books),
     (WITHDRAW_DAY, withdraw_orders),

@@ -6,7 +6,7 @@ ghost use lib.ListN.{length};
 ghost use Rattle.verdict.specs.First.{_orElse_, scan};
 ghost use Rattle.moving.specs.Written.{part};
 ghost use Rattle.book.specs.Read.{countOf, startAt, sizeAt, dueAt};
-ghost use Rattle.book.specs.Check.{entryRule, entryRuleAt, dateRuleAt, bookRule};
+ghost use Rattle.book.specs.Check.{mostBookDays, entryRule, entryRuleAt, dateRuleAt, bookRule};
 ghost use Rattle.book.specs.Sound.{Sound};
 
 pub const MOST_BOOK_DAYS: usize = 31;
@@ -88,7 +88,7 @@ fn dates(book: &[u8], n: usize) -> Verdict
 
 // The contents, then word 1 of each file.
 fn check_days(book: &[u8], n: usize) -> Verdict
-    requires { ⌜ (n ≡ countOf (now book)) × ((n ≤ 31) × (8 + 12 * n ≤ length (now book))) ⌝ }
+    requires { ⌜ (n ≡ countOf (now book)) × ((n ≤ mostBookDays) × (8 + 12 * n ≤ length (now book))) ⌝ }
     ensures { λ r. ⌜ r ≡ (scan (entryRuleAt (now (book .entry))) 0 n orElse scan (dateRuleAt (now (book .entry))) 0 n) ⌝ }
 {
     let first = contents(book, n);

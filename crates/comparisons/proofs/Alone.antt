@@ -17,7 +17,7 @@ use Rattle.contents.specs.File.{editionOf, dayOf, areasOf, peakOf, bodyAt}
 use Rattle.contents.specs.Parts.{Area, areaOf, frontOf, wordsTo}
 use Rattle.contents.proofs.Parts.{peak-there, count-there, number-there, body-is}
 use Rattle.dayfile.specs.Check.{checkOf, checkWithin}
-use Rattle.dayfile.proofs.Facts.{file-length, file-head, file-entry, body-length}
+use Rattle.dayfile.proofs.Facts.{within-limits, file-length, file-head, file-entry, body-length}
 use Rattle.acceptance.proofs.SoundAccepted.{file-sound}
 use Rattle.parts.specs.Good.{numberTo, cisoTo, GoodArea, Good}
 use Rattle.parts.proofs.GoodFile.{whole, small, file-accepted}
@@ -26,7 +26,6 @@ use Rattle.parts.proofs.OwnGood.{own-words}
 use Rattle.statement.specs.Block.{areaNumbers, block}
 use Rattle.settlement.specs.Settlement.{neededTo, numbersNeeded, termsBy, ownDays, settleBy}
 use Rattle.settlement.specs.Shown.{statementLeftBy, hourShown}
-use Rattle.settlement.proofs.Accepted.{within}
 use Rattle.settlement.proofs.Shown.{hour-shown}
 use Rattle.comparisons.specs.Alone.{AloneFile, alone}
 use Rattle.theorems.proofs.SettledExactly.{HourSettled, settled-says, settled-accepts}
@@ -99,7 +98,7 @@ module _ (file : List ℕ) (k : ℕ) (accepted : numberOf (checkOf file) ≡ 0) 
   limits = limitsOf (editionOf file)
 
   checked : numberOf (checkWithin limits file) ≡ 0
-  checked = within file accepted
+  checked = within-limits file accepted
 
   abbrev single : List Area
   single = areaOf file k ∷ []

@@ -18,13 +18,13 @@ use Rattle.contents.specs.File.{editionOf, dayOf, peakOf, areasOf, numberAt, st
 use Rattle.contents.specs.Parts.{Area, areaOf, frontOf, partsOf, areaAt}
 use Rattle.contents.proofs.Parts.{peak-there, count-there, number-there, body-is}
 use Rattle.dayfile.specs.Check.{checkOf, checkWithin}
+use Rattle.dayfile.proofs.Facts.{within-limits}
 use Rattle.acceptance.proofs.SoundAccepted.{file-sound}
 use Rattle.words.specs.Bytes.{Below}
 use Rattle.parts.specs.Good.{Good}
 use Rattle.parts.proofs.GoodFile.{whole, small, file-accepted}
 use Rattle.parts.proofs.OwnParts.{areas-count}
 use Rattle.parts.proofs.OwnGood.{own-area, own-good, Replaced, replaced-good}
-use Rattle.settlement.proofs.Accepted.{within}
 use Rattle.comparisons.specs.Merge.{Mergeable, MergedFile, mergedBody, mergedArea, merge}
 use Rattle.comparisons.proofs.Joined.{below-front, below-back}
 use Rattle.comparisons.proofs.MergeWords.{other-length, head-is, built}
@@ -49,7 +49,7 @@ module _ (i n number : ℕ) (file : List ℕ) (accepted : numberOf (checkOf file
   limits = limitsOf (editionOf file)
 
   checked : numberOf (checkWithin limits file) ≡ 0
-  checked = within file accepted
+  checked = within-limits file accepted
 
   abbrev others : List Area
   others = map (mergedArea i n number) (partsOf file)

@@ -11,8 +11,8 @@ use Rattle.contents.specs.File.{dayOf}
 use Rattle.book.specs.Days.{bookOf}
 use Rattle.book.specs.Read.{countOf}
 use Rattle.book.specs.Check.{bookRule}
-use Rattle.keeping.specs.Keeping.{emptied, addRule, withDay, withdrawRule, withoutDay}
-use Rattle.keeping.specs.Place.{newDay, addedAt, withoutAt, aheadFrom, missedFrom}
+use Rattle.keeping.specs.Keeping.{dayOfFile, emptied, addRule, withDay, withdrawRule, withoutDay}
+use Rattle.keeping.specs.Place.{addedAt, withoutAt, beforeFirst, notEarlier, sameDate}
 use Rattle.keeping.proofs.Placed.{added-inserted, without-removed}
 use Rattle.keeping.proofs.Rules.{is-there, is-absent}
 
@@ -21,11 +21,11 @@ module _ (room file : List ℕ) where
   unfolding withDay
   not-added refused = rw (ne-eqb (numberOf (addRule room file)) 0 refused)
 
-  pub day-added : (k : ℕ) → numberOf (addRule room file) ≡ 0 → k ≡ aheadFrom room (dayOf file) 0 (countOf room)
-      → bookOf (addedAt room k (newDay (dayOf file) file)) room ≡ withDay room file
+  pub day-added : (k : ℕ) → numberOf (addRule room file) ≡ 0 → k ≡ beforeFirst room (notEarlier (dayOf file)) 0 (countOf room)
+      → bookOf (addedAt room k (dayOfFile file)) room ≡ withDay room file
   unfolding withDay
   day-added k accepted e =
-      rw (eq-eqb (numberOf (addRule room file)) 0 accepted) (ap (λ days. bookOf days room) (added-inserted room (newDay (dayOf file) file) k e))
+      rw (eq-eqb (numberOf (addRule room file)) 0 accepted) (ap (λ days. bookOf days room) (added-inserted room (dayOfFile file) k e))
 
 module _ (room : List ℕ) (date : ℕ) where
   stays : (numberOf (withdrawRule room date) ≡ 0 → ⊥) → room ≡ withoutDay room date
@@ -43,7 +43,7 @@ module _ (room : List ℕ) (date : ℕ) where
 
   module _ (accepted : numberOf (bookRule room) ≡ 0) where
     -- where the date is absent
-    module _ (absent : countOf room ≤ missedFrom room date 0 (countOf room)) where
+    module _ (absent : countOf room ≤ beforeFirst room (sameDate date) 0 (countOf room)) where
       pub absent-refused : DateThereOrAbsent ≡ withdrawRule room date
       unfolding withdrawRule
       absent-refused = sym (or-next (bookRule room) _ accepted ∙ rw (is-absent room date absent))
@@ -52,7 +52,7 @@ module _ (room : List ℕ) (date : ℕ) where
       nothing-withdrawn = stays (λ z. omega (arith, ap numberOf absent-refused ∙ z))
 
     -- where it is there, at place k
-    module _ (k : ℕ) (e : k ≡ missedFrom room date 0 (countOf room)) (h : k < countOf room) where
+    module _ (k : ℕ) (e : k ≡ beforeFirst room (sameDate date) 0 (countOf room)) (h : k < countOf room) where
       pub withdraw-accepts : Accepted ≡ withdrawRule room date
       unfolding withdrawRule
       withdraw-accepts = sym (or-next (bookRule room) _ accepted ∙ rw (is-there room date (rw e at h)))

@@ -18,7 +18,7 @@ use Rattle.dayfile.specs.Check.{checkOf}
 use Rattle.book.specs.Read.{roomWords, countOf, dateAt, endOf, dayAt, daysFrom, daysOf}
 use Rattle.book.specs.Check.{mostBookDays, bookRule}
 use Rattle.keeping.specs.Keeping.{isThere, mostBookWords, dayRule, addRule}
-use Rattle.keeping.specs.Place.{missedFrom}
+use Rattle.keeping.specs.Place.{beforeFirst, sameDate}
 
 both-more : (a b : ℕ) → ltb a b ≡ ltb (suc a) (suc b)
 both-more a b =
@@ -26,19 +26,19 @@ both-more a b =
     (le-ltb (suc a) (suc b) (omega (arith, h))))
 
 -- a date is there exactly if the scan stops before the end
-found : (room : List ℕ) (date k m : ℕ) → isThere date (daysFrom room k m) ≡ ltb (missedFrom room date k m) m
-unfolding isThere daysFrom missedFrom dayAt
+found : (room : List ℕ) (date k m : ℕ) → isThere date (daysFrom room k m) ≡ ltb (beforeFirst room (sameDate date) k m) m
+unfolding isThere daysFrom beforeFirst dayAt
 found room date k zero = refl
 found room date k (suc m) = pick (eqb (dateAt room k) date) (found room date (suc k) m)
   where
-    pick : (b : Bool) → isThere date (daysFrom room (suc k) m) ≡ ltb (missedFrom room date (suc k) m) m
-        → (b || isThere date (daysFrom room (suc k) m)) ≡ ltb (cond b 0 (suc (missedFrom room date (suc k) m))) (suc m)
+    pick : (b : Bool) → isThere date (daysFrom room (suc k) m) ≡ ltb (beforeFirst room (sameDate date) (suc k) m) m
+        → (b || isThere date (daysFrom room (suc k) m)) ≡ ltb (cond b 0 (suc (beforeFirst room (sameDate date) (suc k) m))) (suc m)
     pick true h = sym (lt-ltb 0 (suc m) (omega arith))
-    pick false h = h ∙ both-more (missedFrom room date (suc k) m) m
+    pick false h = h ∙ both-more (beforeFirst room (sameDate date) (suc k) m) m
 
 module _ (room : List ℕ) (date : ℕ) where
   abbrev missed : ℕ
-  missed = missedFrom room date 0 (countOf room)
+  missed = beforeFirst room (sameDate date) 0 (countOf room)
 
   pub is-there : missed < countOf room → isThere date (daysOf room) ≡ true
   is-there h = found room date 0 (countOf room) ∙ lt-ltb missed (countOf room) h

@@ -61,10 +61,7 @@ module _ (room : List ℕ) where
 
   -- 20, then 22, "absent"
   unfoldable pub withdrawRule : ℕ → Verdict
-  withdrawRule date =
-      bookRule room
-      orElse (rule isThere date (daysOf room) else DateThereOrAbsent then
-      Accepted)
+  withdrawRule date = bookRule room orElse (rule isThere date (daysOf room) else DateThereOrAbsent then Accepted)
 
   -- the room with 0 for every word of its book
   unfoldable pub emptied : List ℕ

@@ -8,8 +8,8 @@ ghost use Rattle.moving.specs.Written.{written, part};
 ghost use Rattle.book.specs.Days.{bookOf};
 ghost use Rattle.book.specs.Read.{countOf};
 ghost use Rattle.book.specs.Sound.{Sound};
-ghost use Rattle.keeping.specs.Keeping.{dayRule, emptied, addRule, withDay, withdrawRule, withoutDay};
-ghost use Rattle.keeping.specs.Place.{newDay, addedAt, withoutAt, aheadFrom, missedFrom, Fits};
+ghost use Rattle.keeping.specs.Keeping.{dayOfFile, dayRule, emptied, addRule, withDay, withdrawRule, withoutDay};
+ghost use Rattle.keeping.specs.Place.{addedAt, withoutAt, beforeFirst, notEarlier, sameDate, Fits};
 
 // A first word is a word: no entry can say that a file begins behind so many words.
 const MOST_BOOK_WORDS: usize = 4294967296;
@@ -27,8 +27,8 @@ fn make_way(room: &mut [u8], contents: usize, here: usize, end: usize, file: &[u
 
 // A day more, at place k among the days.
 fn add_at(room: &mut [u8], k: usize, date: u32, file: &[u8])
-    requires { ⌜ Fits (now room) k (now file) ⌝ }
-    ensures { λ _. ⌜ now (room .exit) ≡ bookOf (addedAt (now (room .entry)) k (newDay date (now (file .entry)))) (now (room .entry)) ⌝ }
+    requires { ⌜ Fits (now room) k date (now file) ⌝ }
+    ensures { λ _. ⌜ now (room .exit) ≡ bookOf (addedAt (now (room .entry)) k (dayOfFile (now (file .entry)))) (now (room .entry)) ⌝ }
 {
     let n = words::word(room, 1) as usize;
     let here = book::due(room, k);
@@ -64,7 +64,7 @@ fn withdraw_at(room: &mut [u8], k: usize)
 // The place of a date among n entries: before the first that is not earlier.
 fn place(room: &[u8], n: usize, date: u32) -> usize
     requires { ⌜ 8 + 12 * n ≤ length (now room) ⌝ }
-    ensures { λ r. ⌜ r ≡ aheadFrom (now (room .entry)) date 0 n ⌝ }
+    ensures { λ r. ⌜ r ≡ beforeFirst (now (room .entry)) (notEarlier date) 0 n ⌝ }
 {
     let mut k: usize = 0;
     while k < n {
@@ -79,7 +79,7 @@ fn place(room: &[u8], n: usize, date: u32) -> usize
 // The entry of a date among n entries; n where there is none.
 fn find(room: &[u8], n: usize, date: u32) -> usize
     requires { ⌜ 8 + 12 * n ≤ length (now room) ⌝ }
-    ensures { λ r. ⌜ r ≡ missedFrom (now (room .entry)) date 0 n ⌝ }
+    ensures { λ r. ⌜ r ≡ beforeFirst (now (room .entry)) (sameDate date) 0 n ⌝ }
 {
     let mut k: usize = 0;
     while k < n {

@@ -1,7 +1,7 @@
 -- What one day's file takes of a statement, and what settling it there leaves.
 use Prim.Native.Nat.{ℕ, _≤_}
 use mathlib.Core.Bool.{cond}
-use mathlib.Core.List.{List, [], _++_}
+use mathlib.Core.List.{List, _++_}
 use mathlib.Core.Logic.{dite}
 use mathlib.Core.Path.{_≡_, sym, ap, _∙_}
 use native.Mathlib.Decide.{ℕ-discrete}
@@ -11,13 +11,11 @@ use lib.Dec.{eqb}
 use lib.IntN.{ℤ}
 use lib.ListN.{length, drop, length-append, length-drop}
 use lib.Seq.{drop-at}
-use Rattle.verdict.specs.declared.Verdict.{Verdict}
 use Rattle.verdict.specs.Verdict.{numberOf}
-use Rattle.verdict.proofs.First.{or-next}
 use Rattle.contents.specs.File.{areasOf}
 use Rattle.dayfile.specs.Check.{checkOf}
-use Rattle.settlement.specs.Settlement.{numbersNeeded, statementTo, acceptedRule, afterWith, listed, daysBy, ownDays, settleOf, after}
-use Rattle.settlement.proofs.Accepted.{sound-file, opened, rule-same, after-same, no-list, refused, settled}
+use Rattle.settlement.specs.Settlement.{numbersNeeded, statementTo, daysBy, ownDays, settleOf}
+use Rattle.settlement.proofs.Accepted.{sound-file, refused, settled}
 use Rattle.settlement.proofs.Areas.{statement-length}
 use Rattle.settlement.proofs.Room.{check-accepts, room-enough}
 use Rattle.month.specs.Month.{numbersTaken, settledDay}
@@ -74,14 +72,3 @@ module _ (file : List ℕ) where
     -- behind the numbers that the day takes the statement is as it was
     pub day-behind : drop (numbersTaken file) (settledDay file statement) ≡ drop (numbersTaken file) statement
     day-behind = dite (ℕ-discrete (numberOf (settleOf file (length statement))) 0) settled-behind (λ h. ap (drop (numbersTaken file)) (day-refused h))
-
--- past the check, settling with no list of days is settling the day
-pub past-check : (file : List ℕ) (statement came : List ℤ) (verdict : Verdict) → numberOf (checkOf file) ≡ 0
-    → verdict ≡ acceptedRule (listed [] file) file (length statement) → came ≡ afterWith (listed [] file) file verdict statement
-    → (verdict ≡ settleOf file (length statement)) × (came ≡ settledDay file statement)
-past-check file statement came verdict accepted is left =
-    let own = daysBy ownDays file in
-    let rule : verdict ≡ settleOf file (length statement) =
-    is ∙ rule-same (listed [] file) own file (λ k h. no-list file k) (length statement)
-    ∙ sym (opened file (length statement) ∙ or-next (checkOf file) (acceptedRule own file (length statement)) accepted) in
-    (rule, left ∙ after-same (listed [] file) own file (λ k h. no-list file k) verdict statement ∙ ap (λ v. after v file statement) rule)

@@ -38,10 +38,7 @@ settledDays (day ∷ days) statement =
 module _ (room : List ℕ) where
   -- 20, then 21, "the table has fewer places than days"
   unfoldable pub monthRule : (places : ℕ) → Verdict
-  monthRule places =
-      bookRule room
-      orElse (rule leb (countOf room) places else DaysDoNotFit then
-      Accepted)
+  monthRule places = bookRule room orElse (rule leb (countOf room) places else DaysDoNotFit then Accepted)
 
   -- the statement and the table afterwards: "places past the days stay", and a refusal leaves both as they were
   unfoldable pub statementAfter : Verdict → List ℤ → List ℤ

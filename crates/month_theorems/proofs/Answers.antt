@@ -13,9 +13,9 @@ use Rattle.verdict.proofs.Accepted.{accepted-place}
 use Rattle.verdict.proofs.First.{or-next, or-stop}
 use Rattle.contents.specs.File.{areasOf}
 use Rattle.dayfile.specs.Check.{checkOf}
-use Rattle.dayfile.proofs.Facts.{file-head}
+use Rattle.dayfile.proofs.Facts.{within-limits, file-head}
 use Rattle.settlement.specs.Settlement.{numbersNeeded, areasRefusal, acceptedRule, daysBy, ownDays, settleOf}
-use Rattle.settlement.proofs.Accepted.{within, opened}
+use Rattle.settlement.proofs.Accepted.{opened}
 use Rattle.settlement.proofs.Areas.{needed-within}
 use Rattle.month.specs.Month.{numbersTaken}
 use Rattle.month.proofs.OneDay.{taken-needed}
@@ -46,7 +46,7 @@ module _ (file : List ℕ) where
     enough room h = past-check room ∙ rw (le-leb (numbersNeeded file) room h)
 
     pub some-needed : 0 < numbersNeeded file
-    some-needed = omega (arith, needed-within file 0 (areasOf file) (file-head _ file (within file passes) .some))
+    some-needed = omega (arith, needed-within file 0 (areasOf file) (file-head _ file (within-limits file passes) .some))
 
   -- with room for the numbers that it takes, it answers what it answers in room for just those that it needs
   pub with-room : (room : ℕ) → numbersTaken file ≤ room → settleOf file room ≡ settleOf file (numbersNeeded file)

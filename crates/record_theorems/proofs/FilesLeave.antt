@@ -15,7 +15,7 @@ use Rattle.calendar.proofs.DayNumber.{rising}
 use Rattle.verdict.specs.Verdict.{numberOf}
 use Rattle.contents.specs.File.{editionOf, dayOf, areasOf, numberAt, bodyAt, numberBefore}
 use Rattle.dayfile.specs.Check.{checkOf}
-use Rattle.dayfile.proofs.Facts.{file-head, file-entry}
+use Rattle.dayfile.proofs.Facts.{within-limits, file-head, file-entry}
 use Rattle.marks.specs.Marks.{aged}
 use Rattle.recording.specs.declared.Place.{Place}
 use Rattle.recording.specs.declared.Record.{Record}
@@ -25,7 +25,6 @@ use Rattle.recording.proofs.InPlace.{entries-of, listed-of, marked-below, marke
 use Rattle.record_check.proofs.Left.{record-before}
 use Rattle.marking.specs.Marked.{markedIn, markedFrom, markedAreas}
 use Rattle.made.specs.Made.{RisingNumbers}
-use Rattle.settlement.proofs.Accepted.{within}
 use Rattle.entering.specs.Enter.{heldThen}
 use Rattle.entering.proofs.Entry.{entry-says, entry-leaves}
 use Rattle.record_theorems.specs.Entries.{lastOf, heldAfter, Rising, Before, InOrder}
@@ -58,7 +57,7 @@ module _ (file : List ℕ) (accepted : numberOf (checkOf file) ≡ 0) where
   limits = limitsOf (editionOf file)
 
   pub day-real : realDate (dayOf file) ≡ true
-  day-real = file-head limits file (within file accepted) .real
+  day-real = file-head limits file (within-limits file accepted) .real
 
   rising-file : (low k m : ℕ) → k + m ≡ areasOf file → (k < areasOf file → low ≤ numberAt file k) → RisingNumbers low (markedFrom file k m)
   unfolding markedFrom
@@ -66,18 +65,18 @@ module _ (file : List ℕ) (accepted : numberOf (checkOf file) ≡ 0) where
   rising-file low k (suc m) e h =
       rising-if (markedIn (bodyAt file k)) low (numberAt file k) (markedFrom file (suc k) m) (h (omega arith))
       (rising-file (numberAt file k + 1) (suc k) m (omega arith)
-      (λ p. omega (arith, file-entry limits file (within file accepted) (suc k) p .rising, before-next file k)))
+      (λ p. omega (arith, file-entry limits file (within-limits file accepted) (suc k) p .rising, before-next file k)))
 
   known-file : (k m : ℕ) → k + m ≡ areasOf file → NumbersKnown (markedFrom file k m)
   unfolding markedFrom
   known-file k zero e = tt
   known-file k (suc m) e =
       known-if (markedIn (bodyAt file k)) (numberAt file k) (markedFrom file (suc k) m)
-      (file-entry limits file (within file accepted) k (omega arith) .small)
+      (file-entry limits file (within-limits file accepted) k (omega arith) .small)
       (known-file (suc k) m (omega arith))
 
   marked-rising : RisingNumbers 1 (markedAreas file)
-  marked-rising = rising-file 1 0 (areasOf file) (omega arith) (λ p. omega (arith, file-entry limits file (within file accepted) 0 p .rising))
+  marked-rising = rising-file 1 0 (areasOf file) (omega arith) (λ p. omega (arith, file-entry limits file (within-limits file accepted) 0 p .rising))
 
   marked-known : NumbersKnown (markedAreas file)
   marked-known = known-file 0 (areasOf file) (omega arith)

@@ -1,7 +1,7 @@
 -- A file that the check accepts is one that settlement can work on, and what settling it with other but equal days comes to.
 use Prim.Native.Nat.{ℕ, zero, suc, _≤_, _<_}
 use mathlib.Core.List.{List, [], _++_}
-use mathlib.Core.Path.{_≡_, refl, ap, ap₂, _∙_}
+use mathlib.Core.Path.{_≡_, refl, sym, ap, ap₂, _∙_}
 use native.Mathlib.Omega.{arith}
 use lib.ListN.{length, getD, drop}
 use lib.IntN.{ℤ}
@@ -13,26 +13,25 @@ use Rattle.limits.proofs.Editions.{plain}
 use Rattle.verdict.specs.declared.Verdict.{Verdict}
 use Rattle.verdict.specs.Verdict.{numberOf}
 use Rattle.verdict.specs.First.{_orElse_}
-use Rattle.verdict.proofs.First.{scan-same}
+use Rattle.verdict.proofs.First.{or-next, scan-same}
 use Rattle.body.proofs.Kept.{always, sound-more}
 use Rattle.contents.specs.File.{editionOf, areasOf, peakOf, startAt, bodyAt}
 use Rattle.dayfile.specs.Check.{checkOf, checkWithin}
-use Rattle.dayfile.proofs.Facts.{file-head, file-entry}
+use Rattle.dayfile.proofs.Facts.{within-limits, file-head, file-entry}
 use Rattle.acceptance.proofs.SoundAccepted.{file-sound}
 use Rattle.surcharge.specs.declared.Terms.{Terms}
 use Rattle.statement.specs.Block.{block}
 use Rattle.settlement.specs.SoundFile.{SoundFile, DaysKept, Settleable}
 use Rattle.settlement.specs.Settlement.{numbersNeeded, termsAt, hoursRefusal, areaRefusal, areasRefusal, acceptedRule, statementTo, afterWith}
-use Rattle.settlement.specs.Settlement.{settleWith, daysIn, termsIn, listed, daysBy, ownDays, settleOf}
+use Rattle.settlement.specs.Settlement.{settleWith, daysIn, termsIn, listed, daysBy, ownDays, settleOf, after}
 
 module _ (file : List ℕ) (accepted : numberOf (checkOf file) ≡ 0) where
   -- the limits that the file's first word sets
   abbrev limits : Limits
   limits = limitsOf (editionOf file)
 
-  pub within : numberOf (checkWithin limits file) ≡ 0
-  unfolding checkOf
-  within = accepted
+  abbrev within : numberOf (checkWithin limits file) ≡ 0
+  within = within-limits file accepted
 
   pub sound-file : SoundFile file
   sound-file =
@@ -110,3 +109,16 @@ module _ (days : ℕ → ℕ) (file : List ℕ) (v : Verdict) (statement : List 
   pub settled : numberOf v ≡ 0 → statementTo days file (areasOf file) ++ drop (numbersNeeded file) statement ≡ afterWith days file v statement
   unfolding afterWith
   settled h = rw (eq-eqb (numberOf v) 0 h)
+
+-- ---- past the check, with no list: what settling answers and leaves
+
+pub past-check : (file : List ℕ) (statement came : List ℤ) (v : Verdict) → numberOf (checkOf file) ≡ 0
+    → v ≡ acceptedRule (listed [] file) file (length statement) → came ≡ afterWith (listed [] file) file v statement
+    → (v ≡ settleOf file (length statement)) × (came ≡ after v file statement)
+past-check file statement came v accepted is left =
+    let own = daysBy ownDays file in (
+      is
+          ∙ rule-same (listed [] file) own file (λ k h. no-list file k) (length statement)
+          ∙ sym (opened file (length statement) ∙ or-next (checkOf file) (acceptedRule own file (length statement)) accepted),
+      left ∙ after-same (listed [] file) own file (λ k h. no-list file k) v statement,
+    )

@@ -21,7 +21,7 @@ use Rattle.body.proofs.Kept.{always, hour-inside}
 use Rattle.contents.specs.File.{editionOf, areasOf, startAt, bodyAt}
 use Rattle.dayfile.specs.Ciso.{cisoBefore}
 use Rattle.dayfile.specs.Check.{checkOf}
-use Rattle.dayfile.proofs.Facts.{file-length, file-head, file-entry, file-one-ciso, body-length}
+use Rattle.dayfile.proofs.Facts.{within-limits, file-length, file-head, file-entry, file-one-ciso, body-length}
 use Rattle.acceptance.proofs.Acceptance.{first-broken, length-exactly}
 use Rattle.price.specs.Price.{answerNumber, answerCount}
 use Rattle.surcharge.specs.declared.Terms.{Terms}
@@ -29,7 +29,7 @@ use Rattle.amounts.specs.Amounts.{priceAnswerAt, priceNeeded, priceRule}
 use Rattle.statement.specs.Block.{areaNumbers}
 use Rattle.settlement.specs.Settlement.{mostNumbers, mostPlace, neededTo, numbersNeeded, termsAt, chargeable, chargeRule, hourRefusal}
 use Rattle.settlement.specs.Settlement.{hoursRefusal, areaRefusal, areasRefusal, acceptedRule, settleWith, daysBy, ownDays, settleOf}
-use Rattle.settlement.proofs.Accepted.{within, sound-file}
+use Rattle.settlement.proofs.Accepted.{sound-file}
 
 -- K of an area is 1, and more where it is CISO
 pub few-coordinators : (kind count : ℕ) → kind ≤ 1 → count ≤ mostOfKind kind → count ≤ 1 + (mostCoordinators - 1) * kind
@@ -60,17 +60,17 @@ module _ (file : List ℕ) (accepted : numberOf (checkOf file) ≡ 0) where
   one-ciso : (n : ℕ) → n ≤ areasOf file → cisoBefore file n ≤ 1
   unfolding cisoBefore
   one-ciso zero h = omega arith
-  one-ciso (suc k) h = file-one-ciso _ file (within file accepted) k h
+  one-ciso (suc k) h = file-one-ciso _ file (within-limits file accepted) k h
 
   pub needed-most : numbersNeeded file ≤ mostNumbers
   needed-most =
-      let few = file-head _ file (within file accepted) .few in
+      let few = file-head _ file (within-limits file accepted) .few in
       omega (arith, needed-by (areasOf file) (omega arith), one-ciso (areasOf file) (omega arith), few, areas-most (editionOf file))
 
   words : length file / 4 ≤ mostPlace
   words =
       let b = bytes-most (editionOf file) in
-      omega (arith, file-length _ file (within file accepted) .most-bytes (b .0), b .1)
+      omega (arith, file-length _ file (within-limits file accepted) .most-bytes (b .0), b .1)
 
   module _ (terms : Terms) (k : ℕ) (below : k < areasOf file) where
     abbrev body : List ℕ
@@ -82,7 +82,7 @@ module _ (file : List ℕ) (accepted : numberOf (checkOf file) ≡ 0) where
     -- an hour's first word past its body's words lies within the file
     hour-end : (h : ℕ) → h < dayHours → start + (hourAt body h + (8 + 24 * pointsOf body + coordinatorsOf body)) ≤ mostPlace
     hour-end h p =
-        let z = within file accepted in
+        let z = within-limits file accepted in
         omega (arith, hour-inside _ body (sound-file file accepted .body k below) h p, file-entry _ file z k below .inside, body-length _ file z k below, words)
 
     hour-small : (h : ℕ) → h < dayHours → Holds Small (hourRefusal terms start body h)

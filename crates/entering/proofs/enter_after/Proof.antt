@@ -5,14 +5,14 @@ use mathlib.Core.Path.{_≡_, ap, ap₂, _∙_}
 use native.Mathlib.Omega.{arith}
 use Rattle.calendar.specs.Date.{realDate}
 use Rattle.contents.specs.File.{dayOf, areasOf}
-use Rattle.dayfile.proofs.Facts.{file-head}
+use Rattle.dayfile.proofs.Facts.{within-limits, file-head}
 use Rattle.marking.specs.Marked.{markedFrom}
 use Rattle.recording.specs.Record.{entries, recordOf, kept, markedAll, answered}
 use Rattle.recording.proofs.AllMarked.{aged-sound}
 use Rattle.record_check.specs.Left.{daysBetween}
 use Rattle.record_check.proofs.Left.{admitted, Before, record-before}
 use Rattle.settlement.specs.SoundFile.{SoundFile}
-use Rattle.settlement.proofs.Accepted.{within, sound-file}
+use Rattle.settlement.proofs.Accepted.{sound-file}
 use Rattle.entering.proofs.Entry.{too-many, taken}
 use Rattle.entering.proofs.enter_after.Statement.{statement}
 use Rattle.entering.proofs.enter_after.Tie as tie
@@ -24,7 +24,7 @@ before : (c : tie.Start) → Before (c .args .given) (dayOf (now (c .args .file)
 before c = record-before _ _ (admitted _ _ (c .pre) .judged)
 
 real : (c : tie.Start) → realDate (dayOf (now (c .args .file))) ≡ true
-real c = file-head _ _ (within _ (admitted _ _ (c .pre) .checked)) .real
+real c = file-head _ _ (within-limits _ (admitted _ _ (c .pre) .checked)) .real
 
 -- the record on the day of the file
 aged : (c : tie.After-age-all) →

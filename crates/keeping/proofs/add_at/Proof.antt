@@ -1,8 +1,10 @@
 use denote.Ref.{now}
-use Prim.Native.Nat.{_+_, _*_, _-_, _/_, _≤_}
+use Prim.Native.Nat.{ℕ, _+_, _*_, _-_, _/_, _≤_}
 use mathlib.Core.Path.{_≡_, ap, _∙_}
 use lib.ListN.{length}
 use Rattle.moving.specs.Written.{written}
+use Rattle.book.specs.Days.{bookOf}
+use Rattle.keeping.specs.Place.{addedAt}
 use Rattle.book.specs.Read.{countOf, dueAt}
 use Rattle.keeping.proofs.Added.{low, high, files, starts-fit, added-done}
 use native.Mathlib.Omega.{arith}
@@ -65,8 +67,11 @@ returns c =
     let way = done .before .before .before .before in
     let f = facts (way .before .before) in
     let s = way .before .before .before .before .before .before .before .before .before .before in
-    added-done (now (s .args .room)) (s .pre .sound) (s .args .k) (s .args .date) (now (s .args .file)) (s .pre .place) (s .pre .fits) (way .make-way .last .0)
-    (made way) _ (rw (f .0, f .1) at (done .enter .ensures))
+    let room = now (s .args .room) in
+    let file = now (s .args .file) in
+    added-done room (s .pre .sound) (s .args .k) (s .args .date) file (s .pre .place) (s .pre .fits) (way .make-way .last .0) (made way) _
+    (rw (f .0, f .1) at (done .enter .ensures))
+    ∙ ap (λ (date : ℕ). bookOf (addedAt room (s .args .k) (record { date = date; file = file })) room) (s .pre .dated)
 
 pub add-at-spec : {M : Type 1} → statement M
 add-at-spec =

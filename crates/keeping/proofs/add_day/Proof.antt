@@ -9,8 +9,8 @@ use Rattle.book.specs.Read.{countOf}
 use Rattle.book.specs.Sound.{Sound}
 use Rattle.book.proofs.Kept.{sound-book}
 use Rattle.keeping.specs.Keeping.{addRule}
-use Rattle.keeping.specs.Place.{aheadFrom}
-use Rattle.keeping.proofs.Placed.{ahead-within}
+use Rattle.keeping.specs.Place.{beforeFirst, notEarlier}
+use Rattle.keeping.proofs.Placed.{scan-within}
 use Rattle.keeping.proofs.Rules.{add-book, add-file, add-taken}
 use Rattle.keeping.proofs.Results.{not-added, day-added}
 use native.Mathlib.Omega.{arith}
@@ -60,8 +60,9 @@ add-at-requires c κs =
     let whole = file-length _ (now (s .file)) (within-limits (now (s .file)) (add-file room (now (s .file)) (accepted e))) .whole in
     let l = long e in
     record {
+      dated = w .before .before .word .ensures;
       sound = sound e;
-      place = omega (arith, c .before .place .ensures, w .word2 .ensures, ahead-within room (w .before .before .word .result) 0 (w .word2 .result));
+      place = omega (arith, c .before .place .ensures, w .word2 .ensures, scan-within room (notEarlier (w .before .before .word .result)) 0 (w .word2 .result));
       fits = omega (arith, taken .fits);
       some = omega arith;
       named = taken .named;
@@ -76,9 +77,9 @@ returns-2 c =
     let s = start (e .before) .args in
     let room = now (s .book) in
     let date = w .before .before .word .ensures in
-    let k : p .place .result ≡ aheadFrom room (dayOf (now (s .file))) 0 (countOf room) = p .place .ensures ∙ rw (date, w .word2 .ensures) in (
+    let k : p .place .result ≡ beforeFirst room (notEarlier (dayOf (now (s .file)))) 0 (countOf room) = p .place .ensures ∙ rw (date, w .word2 .ensures) in (
       e .before .before .admit .ensures,
-      done .add-at .ensures ∙ rw date (day-added room (now (s .file)) (p .place .result) (accepted e) k),
+      done .add-at .ensures ∙ day-added room (now (s .file)) (p .place .result) (accepted e) k,
     )
 
 pub add-day-spec : {M : Type 1} → statement M

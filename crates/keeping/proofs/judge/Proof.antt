@@ -4,7 +4,7 @@ use mathlib.Core.Path.{_≡_, ap, _∙_}
 use lib.ListN.{length}
 use Rattle.book.specs.Read.{countOf, dueAt, endOf}
 use Rattle.book.specs.Check.{mostBookDays}
-use Rattle.keeping.specs.Place.{missedFrom}
+use Rattle.keeping.specs.Place.{beforeFirst, sameDate}
 use Rattle.keeping.proofs.Rules.{date-there, too-many, too-long, past-words, day-fits}
 use native.Mathlib.Omega.{arith}
 use borrow.Author.Needs.{needs}
@@ -17,15 +17,15 @@ start c = c .before .before .before
 -- the number of days, and where the scan stopped
 scanned : (c : tie.After-find) →
     let s = start c .args in
-    (c .before .word .result ≡ countOf (now (s .book))) × (c .find .result ≡ missedFrom (now (s .book)) (s .date) 0 (countOf (now (s .book))))
+    (c .before .word .result ≡ countOf (now (s .book))) × (c .find .result ≡ beforeFirst (now (s .book)) (sameDate (s .date)) 0 (countOf (now (s .book))))
 scanned c =
     let s = start c .args in
     let n = c .before .word .ensures in
-    (n, c .find .ensures ∙ ap (missedFrom (now (s .book)) (s .date) 0) n)
+    (n, c .find .ensures ∙ ap (beforeFirst (now (s .book)) (sameDate (s .date)) 0) n)
 
 absent : (c : tie.Else1) →
     let s = start (c .before) .args in
-    countOf (now (s .book)) ≤ missedFrom (now (s .book)) (s .date) 0 (countOf (now (s .book)))
+    countOf (now (s .book)) ≤ beforeFirst (now (s .book)) (sameDate (s .date)) 0 (countOf (now (s .book)))
 absent c = let e = scanned (c .before) in omega (arith, e .0, e .1, c .if1 .left)
 
 few : (c : tie.Else2) → countOf (now (start (c .before .before) .args .book)) < mostBookDays

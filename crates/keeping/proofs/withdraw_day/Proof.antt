@@ -6,8 +6,8 @@ use Rattle.verdict.proofs.Accepted.{accepted-alone}
 use Rattle.book.specs.Read.{countOf}
 use Rattle.book.specs.Check.{bookRule}
 use Rattle.book.proofs.Kept.{sound-book}
-use Rattle.keeping.specs.Place.{missedFrom}
-use Rattle.keeping.proofs.Placed.{missed-within}
+use Rattle.keeping.specs.Place.{beforeFirst, sameDate}
+use Rattle.keeping.proofs.Placed.{scan-within}
 use Rattle.keeping.proofs.Results.{withdraw-stops, book-refused, absent-refused, nothing-withdrawn, withdraw-accepts, day-withdrawn}
 use native.Mathlib.Omega.{arith}
 use borrow.Author.Needs.{needs}
@@ -26,11 +26,11 @@ turn c = c .before .before .before .before
 
 scanned : (c : tie.After-find) →
     let s = start (turn c .before) .args in
-    (c .before .before .word .result ≡ countOf (now (s .book))) × (c .find .result ≡ missedFrom (now (s .book)) (s .date) 0 (countOf (now (s .book))))
+    (c .before .before .word .result ≡ countOf (now (s .book))) × (c .find .result ≡ beforeFirst (now (s .book)) (sameDate (s .date)) 0 (countOf (now (s .book))))
 scanned c =
     let s = start (turn c .before) .args in
     let n = c .before .before .word .ensures in
-    (n, c .find .ensures ∙ ap (missedFrom (now (s .book)) (s .date) 0) n)
+    (n, c .find .ensures ∙ ap (beforeFirst (now (s .book)) (sameDate (s .date)) 0) n)
 
 there : (c : tie.Else2) →
     let f = c .before in
@@ -39,7 +39,7 @@ there c =
     let f = c .before in
     let s = start (turn f .before) .args in
     let e = scanned f in
-    omega (arith, e .0, e .1, missed-within (now (s .book)) (s .date) 0 (countOf (now (s .book))), c .if2 .left)
+    omega (arith, e .0, e .1, scan-within (now (s .book)) (sameDate (s .date)) 0 (countOf (now (s .book))), c .if2 .left)
 
 returns : tie.Need-returns
 returns c =
@@ -62,7 +62,7 @@ returns-2 c =
     let t = turn f in
     let s = start (t .before) .args in
     let e = scanned f in
-    let absent : countOf (now (s .book)) ≤ missedFrom (now (s .book)) (s .date) 0 (countOf (now (s .book))) = omega (arith, e .0, e .1, c .if2 .taken) in
+    let absent : countOf (now (s .book)) ≤ beforeFirst (now (s .book)) (sameDate (s .date)) 0 (countOf (now (s .book))) = omega (arith, e .0, e .1, c .if2 .taken) in
     (absent-refused (now (s .book)) (s .date) (accepted t) absent, nothing-withdrawn (now (s .book)) (s .date) (accepted t) absent)
 
 withdraw-at-requires : tie.Need-withdraw-at-requires

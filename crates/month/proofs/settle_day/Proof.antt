@@ -6,10 +6,10 @@ use lib.ListN.{length}
 use Rattle.verdict.specs.Verdict.{numberOf}
 use Rattle.verdict.proofs.First.{seq-stop}
 use Rattle.dayfile.specs.Check.{checkOf}
-use Rattle.settlement.specs.Settlement.{neededTo, settleOf}
-use Rattle.settlement.proofs.Accepted.{opened, sound-file, own-settleable}
+use Rattle.settlement.specs.Settlement.{neededTo, settleOf, after}
+use Rattle.settlement.proofs.Accepted.{opened, sound-file, own-settleable, past-check}
 use Rattle.month.specs.Month.{numbersTaken, settledDay}
-use Rattle.month.proofs.OneDay.{taken-none, taken-needed, day-refused, day-length, past-check}
+use Rattle.month.proofs.OneDay.{taken-none, taken-needed, day-refused, day-length}
 use Rattle.month.proofs.settle_day.Statement.{statement}
 use Rattle.month.proofs.settle_day.Tie as tie
 
@@ -47,7 +47,12 @@ settled-here : (c : tie.After-settle-accepted) →
     let s = start (past c) .args in
     (c .settle-accepted .result ≡ settleOf (now (s .file)) (length (now (s .statement))))
     × (c .settle-accepted .last .1 .1 .0 ≡ settledDay (now (s .file)) (now (s .statement)))
-settled-here c = past-check _ _ _ _ (accepted (past c)) (c .settle-accepted .ensures .0) (c .settle-accepted .ensures .1)
+settled-here c =
+    let s = start (past c) .args in
+    let f = now (s .file) in
+    let xs = now (s .statement) in
+    let done = past-check f xs _ _ (accepted (past c)) (c .settle-accepted .ensures .0) (c .settle-accepted .ensures .1) in
+    (done .0, done .1 ∙ ap (λ v. after v f xs) (done .0))
 
 -- the day takes the numbers needed
 needed-here : (c : tie.After-settle-accepted) → c .before .before .before .numbers-needed .result ≡ numbersTaken (now (start (past c) .args .file))

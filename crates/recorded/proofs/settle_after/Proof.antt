@@ -5,14 +5,14 @@ use mathlib.Core.Path.{_≡_, ap, _∙_}
 use native.Mathlib.Omega.{arith}
 use lib.ListN.{length}
 use Rattle.contents.specs.File.{dayOf, areasOf, numberAt}
-use Rattle.dayfile.proofs.Facts.{file-head}
+use Rattle.dayfile.proofs.Facts.{within-limits, file-head}
 use Rattle.marks.specs.Marks.{counted}
 use Rattle.recording.specs.Record.{entries, marksOf}
 use Rattle.record_check.specs.Left.{daysBetween}
 use Rattle.record_check.proofs.Left.{admitted, Before, record-before, days-few}
 use Rattle.settlement.specs.SoundFile.{SoundFile}
 use Rattle.settlement.specs.Settlement.{listed, daysBy}
-use Rattle.settlement.proofs.Accepted.{within, sound-file, settleable, in-list, rule-same, after-same}
+use Rattle.settlement.proofs.Accepted.{sound-file, settleable, in-list, rule-same, after-same}
 use Rattle.recorded.specs.Recorded.{recordDays}
 use Rattle.recorded.proofs.settle_after.Statement.{statement}
 use Rattle.recorded.proofs.settle_after.Tie as tie
@@ -45,7 +45,7 @@ word-requires-2 c κs = let r = sound (c .before .before) .room in omega arith
 gap-requires : tie.Need-gap-requires
 gap-requires c κs =
     let s = c .before .before .before in
-    rw (c .before .word .ensures) (file-head _ _ (within _ (admitted _ _ (s .pre) .checked)) .real, admitted _ _ (s .pre) .judged)
+    rw (c .before .word .ensures) (file-head _ _ (within-limits _ (admitted _ _ (s .pre) .checked)) .real, admitted _ _ (s .pre) .judged)
 
 recorded-days-requires : tie.Need-recorded-days-requires
 recorded-days-requires c κs =

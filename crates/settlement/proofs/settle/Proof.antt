@@ -3,10 +3,10 @@ use denote.Ref.{now}
 use mathlib.Core.Path.{_≡_, sym, ap, _∙_}
 use lib.ListN.{length}
 use Rattle.verdict.specs.Verdict.{numberOf}
-use Rattle.verdict.proofs.First.{seq-next, seq-stop}
+use Rattle.verdict.proofs.First.{seq-stop}
 use Rattle.dayfile.specs.Check.{checkOf}
 use Rattle.settlement.specs.Settlement.{daysBy, ownDays}
-use Rattle.settlement.proofs.Accepted.{opened, own-settleable, no-list, rule-same, after-same, refused}
+use Rattle.settlement.proofs.Accepted.{opened, own-settleable, refused, past-check}
 use Rattle.settlement.proofs.settle.Statement.{statement}
 use Rattle.settlement.proofs.settle.Tie as tie
 
@@ -29,13 +29,8 @@ returns-2 c =
     let e = c .before .before .before .before in
     let s = e .before .before .before .before .args in
     let f = now (s .file) in
-    let room = length (now (s .statement)) in
-    let settled = c .before .settle-accepted .ensures in (
-      settled .0
-          ∙ rule-same _ _ f (λ k h. no-list f k) room
-          ∙ sym (seq-next _ _ _ _ _ (opened f room) (e .before .before .check .ensures) (e .before .number .ensures) (e .if1 .left)),
-      settled .1 ∙ after-same _ _ f (λ k h. no-list f k) _ _,
-    )
+    let settled = c .before .settle-accepted .ensures in
+    past-check f (now (s .statement)) _ _ (accepted e) (settled .0) (settled .1)
 
 pub settle-spec : {M : Type 1} → statement M
 settle-spec =

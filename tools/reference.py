@@ -1,5 +1,5 @@
 #!/usr/bin/env python3
-"""The rules of document 01, and of document 02 as far as its requests are taken up (§1 to §5), as
+"""The rules of document 01, and of document 02 as far as its requests are taken up (§1 to §6), as
 plain functions: the check, the settlement, the price of an hour, the sharing of an amount, the
 lookup, the C call, the program, the record of failing days and the settlement with it, the month
 book with its settlement, a day added to it and a day withdrawn from it.
@@ -9,8 +9,8 @@ and amounts are exact fractions in MW, dollars a MWh and dollars, and are rounde
 shares no code with the crates, so that an agreement of the two says something.
 
 Run as a program it prints the figures T1 to T12, T6 and T7 with the S and the credit that they show
-(document 02, §4), the figure of §2, what a record counts (§3), what a book holds and gives (§5), and
-Case P, and exits 1 if one is off.
+(document 02, §4), the figure of §2, what a record counts (§3), what a book holds and gives (§5), how
+many dates there are (§6), and Case P, and exits 1 if one is off.
 """
 
 import datetime
@@ -102,15 +102,26 @@ def date_of(word):
     return datetime.date(word // 10000, word // 100 % 100, word % 100)
 
 
+def is_leap(year):
+    return year % 4 == 0 and (year % 100 != 0 or year % 400 == 0)
+
+
+def last_day(year, month):
+    """A month's last day by formula (document 02, §6). With March the first month and February the
+    last, a month begins (153 k + 2) / 5 days after 1 March, k months before it, without a remainder;
+    it ends where the next one begins. February is the last, and ends with its year."""
+    if month == 2:
+        return 29 if is_leap(year) else 28
+    months_before = (month - 3) % 12
+    return (153 * (months_before + 1) + 2) // 5 - (153 * months_before + 2) // 5
+
+
 def is_date(word):
     """Trading day as YYYYMMDD, a real Gregorian date, 2000 to 2099."""
-    if not 2000 <= word // 10000 <= 2099:
-        return False
-    try:
-        date_of(word)
-    except ValueError:
-        return False
-    return True
+    year, month, day = word // 10000, word // 100 % 100, word % 100
+    return (
+        2000 <= year <= 2099 and 1 <= month <= 12 and 1 <= day <= last_day(year, month)
+    )
 
 
 def is_number(word):
@@ -1039,6 +1050,24 @@ def month_figures():
     yield "its file, freed words", True, room[4 * 5 :] == day_after + bytes(4 * 810) + behind
 
 
+def in_calendar(word):
+    """Whether YYYYMMDD is a date of Python's own calendar."""
+    try:
+        date_of(word)
+    except ValueError:
+        return False
+    return True
+
+
+def date_figures():
+    """Document 02, §6: every year from 1999 to 2100 with every month, and the numbers beside them."""
+    year_of_days = [month * 100 + day for month in range(14) for day in range(33)]
+    words = [year * 10000 + rest for year in range(1999, 2101) for rest in year_of_days]
+    due = [word for word in words if 2000 <= word // 10000 <= 2099 and in_calendar(word)]
+    found = [word for word in words if is_date(word)]
+    yield "the dates of 2000 to 2099", (36525, True), (len(found), found == due)
+
+
 def downward_figures():
     """T8 and T9."""
     yield "T8 W 10.000 at -100", 0, downward(Fraction("10.000"), Fraction(-100))
@@ -1084,6 +1113,7 @@ def main():
         off_peak_figures,
         record_figures,
         month_figures,
+        date_figures,
         downward_figures,
         call_figures,
     ):

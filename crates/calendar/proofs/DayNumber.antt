@@ -7,11 +7,9 @@ use native.Mathlib.Decide.{decLt}
 use native.Mathlib.Omega.{arith}
 use native.Mathlib.Nat.{add-zero, le-refl}
 use lib.Dec.{leb, eqb}
-use lib.ListN.{getD}
-use mathlib.Core.List.{List, [], _∷_}
 use borrow.Author.Tests.{leb-true, leb-false, le-leb, lt-leb, eqb-true, eqb-false}
 use Rattle.verdict.proofs.First.{both}
-use Rattle.calendar.specs.Date.{leapYear, daysIn, realDate, monthLengths}
+use Rattle.calendar.specs.Date.{leapYear, daysIn, realDate}
 use Rattle.calendar.specs.DayNumber.{dayNumber, daysOfMonths}
 
 -- ---- one date
@@ -71,24 +69,14 @@ quiet a (suc n) none =
 
 -- ---- a month
 
-small : List ℕ → Bool
-small [] = true
-small (x ∷ l) = leb x 31 && small l
-
-small-at : (l : List ℕ) → small l ≡ true → (i : ℕ) → getD l i 0 ≤ 31
-unfolding small
-small-at [] t i = omega arith
-small-at (x ∷ l) t zero = leb-true x 31 (both (leb x 31) (small l) t .0)
-small-at (x ∷ l) t (suc i) = small-at l (both (leb x 31) (small l) t .1) i
-
 days-most : (y m : ℕ) → daysIn y m ≤ 31
-unfolding daysIn monthLengths small
-days-most y m = by (eqb m 2) (leapYear y)
+unfolding daysIn
+days-most y m = by (eqb m 2) (leapYear y) refl refl
   where
-    by : (t u : Bool) → cond t (cond u 29 28) (getD monthLengths (m - 1) 0) ≤ 31
-    by true true = omega arith
-    by true false = omega arith
-    by false u = small-at monthLengths refl (m - 1)
+    by : (t u : Bool) → eqb m 2 ≡ t → leapYear y ≡ u → daysIn y m ≤ 31
+    by true true p q = rw (p, q) (omega arith)
+    by true false p q = rw (p, q) (omega arith)
+    by false u p q = rw p (omega arith)
 
 one-more : (d len : ℕ) → min (d - 1) len + cond (leb 1 d && leb d len) 1 0 ≡ min (d + 1 - 1) len
 one-more d len = by (leb 1 d) (leb d len) refl refl
@@ -130,7 +118,7 @@ module _ (y : ℕ) (from : 2000 ≤ y) (to : y ≤ 2099) where
       rw (e, quiet (10000 * y + 1300) 8700 (λ i h. high-month (10000 * y + 1300 + i) (omega arith))) (months 12 (omega arith))
 
   year-days : daysOfMonths y 12 ≡ 365 + cond (leapYear y) 1 0
-  unfolding daysOfMonths daysIn monthLengths
+  unfolding daysOfMonths daysIn
   year-days = by (leapYear y) refl
     where
       by : (t : Bool) → leapYear y ≡ t → daysOfMonths y 12 ≡ 365 + cond (leapYear y) 1 0

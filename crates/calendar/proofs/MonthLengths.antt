@@ -14,13 +14,15 @@ use Rattle.calendar.specs.Date.{leapYear, daysIn, realDate}
 
 -- ---- the twelve lengths
 
-abbrev pub numbers : ℕ → ℕ → List ℕ
+-- n numbers in a row
+abbrev pub numbers : (first n : ℕ) → List ℕ
 numbers first zero = []
 numbers first (suc n) = first ∷ numbers (suc first) n
 
 abbrev pub lengths : (february : ℕ) → List ℕ
 lengths february = 31 ∷ february ∷ 31 ∷ 30 ∷ 31 ∷ 30 ∷ 31 ∷ 31 ∷ 30 ∷ 31 ∷ 30 ∷ 31 ∷ []
 
+-- in every year the formula gives the months 1 to 12 these lengths
 pub twelve-lengths : (year : ℕ) → map (daysIn year) (numbers 1 12) ≡ lengths (cond (leapYear year) 29 28)
 unfolding daysIn
 twelve-lengths year = refl
@@ -47,6 +49,7 @@ alike f g first (suc n) same i from to =
 same-length : (year month : ℕ) → 1 ≤ month → month ≤ 12 → daysIn year month ≡ daysListed year month
 same-length year month from to = alike (daysIn year) (daysListed year) 1 12 (twelve-lengths year) month from (omega arith)
 
+-- every number is a real date exactly where it was one by the list
 pub same-dates : (date : ℕ) → realDate date ≡ realListed date
 unfolding realDate
 same-dates date =

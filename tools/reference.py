@@ -106,10 +106,10 @@ def is_leap(year):
     return year % 4 == 0 and (year % 100 != 0 or year % 400 == 0)
 
 
-def last_day(year, month):
-    """A month's last day by formula (document 02, §6). With March the first month and February the
-    last, a month begins (153 k + 2) / 5 days after 1 March, k months before it, without a remainder;
-    it ends where the next one begins. February is the last, and ends with its year."""
+def days_of_month(year, month):
+    """A month's last day by formula (document 02, §6). Counted from March, a month with k months
+    before it begins (153 k + 2) // 5 days after 1 March, and ends where the next one begins.
+    February, the last of them, ends with its year."""
     if month == 2:
         return 29 if is_leap(year) else 28
     months_before = (month - 3) % 12
@@ -120,7 +120,9 @@ def is_date(word):
     """Trading day as YYYYMMDD, a real Gregorian date, 2000 to 2099."""
     year, month, day = word // 10000, word // 100 % 100, word % 100
     return (
-        2000 <= year <= 2099 and 1 <= month <= 12 and 1 <= day <= last_day(year, month)
+        2000 <= year <= 2099
+        and 1 <= month <= 12
+        and 1 <= day <= days_of_month(year, month)
     )
 
 

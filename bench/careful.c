@@ -36,16 +36,6 @@ static inline int within(uint32_t w, int32_t most)
     return -most <= z && z <= most;
 }
 
-/* R(a / b), halves away from zero. */
-static inline int64_t rounded(int64_t a, int64_t b)
-{
-    int64_t q = a / b, r = a % b;
-    if (2 * (r < 0 ? -r : r) >= b) {
-        q += a < 0 ? -1 : 1;
-    }
-    return q;
-}
-
 int careful_real_date(uint32_t date)
 {
     static const uint8_t lengths[12] = {31, 28, 31, 30, 31, 30, 31, 31, 30, 31, 30, 31};
@@ -198,6 +188,11 @@ static inline uint32_t upward_of(const uint8_t *hour)
     return word(hour, 0) + word(hour, 1) + word(hour, 2) + word(hour, 3);
 }
 
+static inline uint32_t downward_of(const uint8_t *hour)
+{
+    return word(hour, 4) + word(hour, 5);
+}
+
 static inline uint32_t tier_of(uint32_t upward, uint32_t requirement)
 {
     if (upward == 0) {
@@ -220,7 +215,7 @@ static inline int64_t scaled_multiplier(const area_t *a, uint32_t tier)
     return (tier == 2 ? 5 : 8) * (100 + (int64_t)a->days);
 }
 
-static area_t read_area(uint32_t peak, const uint8_t *body)
+static inline area_t read_area(uint32_t peak, const uint8_t *body)
 {
     area_t a;
     int32_t hub_a = (int32_t)word(body, 3), hub_b = (int32_t)word(body, 4);
@@ -245,7 +240,7 @@ static area_t read_area(uint32_t peak, const uint8_t *body)
     }
     a.surcharge = (int64_t)a.upward * a.hub * scaled_multiplier(&a, a.tier);
     a.surcharge = a.surcharge < 0 ? 0 : a.surcharge;
-    a.shown = rounded(a.surcharge, 400000);
+    a.shown = careful_rounded(a.surcharge, 400000);
     return a;
 }
 
@@ -271,7 +266,7 @@ static uint32_t price_of(const uint8_t *pairs, size_t points, int64_t *price)
     if (quantity == 0) {
         return 11;
     }
-    *price = rounded(value, quantity);
+    *price = careful_rounded(value, quantity);
     return 0;
 }
 
@@ -281,7 +276,7 @@ static inline int price_needed(const area_t *a, int peak, uint32_t tier)
 }
 
 /* The amounts of an hour. Returns 0, or what a needed price refuses. */
-static uint32_t amounts_of(const area_t *a, uint32_t peak_word, const uint8_t *hour, size_t h, amounts_t *amounts)
+static inline uint32_t amounts_of(const area_t *a, uint32_t peak_word, const uint8_t *hour, size_t h, amounts_t *amounts)
 {
     int peak = peak_hour(peak_word, h);
     uint32_t upward = upward_of(hour), tier = tier_of(upward, word(hour, 6)), downward;
@@ -299,18 +294,18 @@ static uint32_t amounts_of(const area_t *a, uint32_t peak_word, const uint8_t *h
     if (peak && a->tier >= 2) {
         int64_t credit = tier == 0 ? (int64_t)a->upward * price * 4 : 0;
         int64_t due = a->surcharge - credit;
-        amounts->on = due <= 0 ? 0 : rounded(due, 400000);
+        amounts->on = due <= 0 ? 0 : careful_rounded(due, 400000);
         amounts->surcharge = a->shown;
-        amounts->credit = rounded(credit, 400000);
+        amounts->credit = careful_rounded(credit, 400000);
     }
     if (!peak && tier >= 2) {
         int64_t due = (int64_t)upward * price * scaled_multiplier(a, tier);
-        amounts->off = due <= 0 ? 0 : rounded(due, 40000000);
+        amounts->off = due <= 0 ? 0 : careful_rounded(due, 40000000);
     }
-    downward = word(hour, 4) + word(hour, 5);
+    downward = downward_of(hour);
     if (downward > 10000) {
         int64_t due = (int64_t)downward * (int32_t)word(hour, 7);
-        amounts->down = due >= 0 ? 0 : rounded(due, 100000);
+        amounts->down = due >= 0 ? 0 : careful_rounded(due, 100000);
     }
     return 0;
 }
@@ -360,7 +355,7 @@ static uint64_t settle_area(uint32_t peak, const uint8_t *body, size_t start, ui
                 int64_t up_to = 0;
                 running += word(demands, i);
                 if (amount != 0) {
-                    up_to = rounded(amount * running, total);
+                    up_to = careful_rounded(amount * running, total);
                 }
                 to = put(to, up_to - before);
                 before = up_to;
@@ -405,5 +400,59 @@ uint64_t careful_settle(const uint8_t *file, size_t file_len, uint8_t *statement
         }
     }
     memcpy(statement, settled, 8 * needed);
+    return 0;
+}
+
+static inline int no_demand(const area_t *a, const uint8_t *demands)
+{
+    uint32_t i = 0;
+    while (i < a->count && word(demands, i) == 0) {
+        i++;
+    }
+    return i == a->count;
+}
+
+/* Adds what an area pays in its 24 hours, and notes where it passes, up to the first refusal. */
+static uint64_t collect_area(uint32_t peak, const uint8_t *body, size_t start, uint32_t area_bit, careful_collected_t *collected)
+{
+    area_t a = read_area(peak, body);
+    size_t width = 8 + 24 * (size_t)a.points + a.count, at = 7 + a.count, h;
+    for (h = 0; h < 24; h++, at += width) {
+        const uint8_t *hour = body + 4 * at;
+        amounts_t amounts;
+        uint32_t refusal = amounts_of(&a, peak, hour, h, &amounts);
+        if (refusal != 0) {
+            return REFUSED(refusal, start + at + 8);
+        }
+        if (a.kind == 1 && amounts.on + amounts.off + amounts.down != 0 && no_demand(&a, hour + 4 * (8 + 24 * (size_t)a.points))) {
+            return REFUSED(12, start + at + 8 + 24 * (size_t)a.points);
+        }
+        collected->amount[h][0] += amounts.on + amounts.off;
+        collected->amount[h][1] += amounts.down;
+        if (a.flag == 1) {
+            collected->passing[h][0] |= upward_of(hour) == 0 ? area_bit : 0;
+            collected->passing[h][1] |= downward_of(hour) == 0 ? area_bit : 0;
+        }
+    }
+    return 0;
+}
+
+uint64_t careful_collect(const uint8_t *file, size_t file_len, careful_collected_t *collected)
+{
+    /* A file that the check accepts needs numbers, and is refused with 13 where none are lent. */
+    uint64_t answer = careful_settle(file, file_len, NULL, 0);
+    size_t k;
+    if (answer / 1000000u != 13) {
+        return answer;
+    }
+    memset(collected, 0, sizeof *collected);
+    collected->areas = word(file, 2);
+    for (k = 0; k < collected->areas; k++) {
+        size_t start = word(file, 5 + 3 * k);
+        answer = collect_area(word(file, 3), file + 4 * start, start, (uint32_t)1 << k, collected);
+        if (answer != 0) {
+            return answer;
+        }
+    }
     return 0;
 }

@@ -5,6 +5,7 @@
 
 full       8 areas, CISO with 64 coordinators, 2 load points, failures in every hour
 ordinary   8 areas, CISO with 64 coordinators, 2 load points, failures in one hour in twenty
+passing    8 areas, CISO with 64 coordinators, 2 load points, failures in one hour in two: in most some areas pay and others pass
 smallest   one area with one coordinator and one load point, no failure
 refused    the full day, its last word broken
 areas-N    N areas of one coordinator, 2 load points, failures in every hour
@@ -69,6 +70,7 @@ def all_files():
     yield "full.day", full
     yield "full.book", month_of(full)
     yield "ordinary.day", day_of(2, [ciso(64)] + 7 * [OTHER], 5)
+    yield "passing.day", day_of(5, [ciso(64)] + 7 * [OTHER], 50)
     yield "smallest.day", days.quiet_day([(0, 1, 1)]).to_bytes()
     yield "refused.day", broken(full)
     for count in range(1, 9):

@@ -1,8 +1,8 @@
 #!/usr/bin/env python3
-"""The rules of document 01, and of document 02 as far as its requests are taken up (§1 to §6), as
+"""The rules of document 01, and of document 02 as far as its requests are taken up (§1 to §7), as
 plain functions: the check, the settlement, the price of an hour, the sharing of an amount, the
 lookup, the C call, the program, the record of failing days and the settlement with it, the month
-book with its settlement, a day added to it and a day withdrawn from it.
+book with its settlement, a day added to it and a day withdrawn from it, the collections paid out.
 
 It is written to be read beside these documents and to be right, not to be fast. Quantities, prices
 and amounts are exact fractions in MW, dollars a MWh and dollars, and are rounded once, by R. It
@@ -10,10 +10,11 @@ shares no code with the crates, so that an agreement of the two says something.
 
 Run as a program it prints the figures T1 to T12, T6 and T7 with the S and the credit that they show
 (document 02, §4), the figure of §2, what a record counts (§3), what a book holds and gives (§5), how
-many dates there are (§6), and Case P, and exits 1 if one is off.
+many dates there are (§6), what a day pays out (§7), and Case P, and exits 1 if one is off.
 """
 
 import datetime
+import itertools
 import math
 import struct
 import sys
@@ -45,6 +46,9 @@ FIRST_DAY = datetime.date(2000, 1, 1)
 # word and length in words (4 or more)".
 MOST_DAYS = 31
 LEAST_DAY_WORDS = 4
+
+# The basis of document 02, §7: "0 to 10,000,000, summing to at most that per hour".
+MOST_BASIS = 10000000
 
 
 class Refused(Exception):
@@ -796,6 +800,90 @@ def withdraw_day(room, date):
     return 0, 0, book + bytes(old_end - len(book)) + room[old_end:]
 
 
+# Paying out under 8088 (document 02, §7)
+
+# The directions of an hour: upward before downward.
+UPWARD, DOWNWARD = 0, 1
+
+
+def settled_amounts(area):
+    """The upward and the downward amount of each hour of an area, with the file's own d, or what
+    settlement refuses. Upward is on-peak plus off-peak."""
+    numbers = block(area, area.days)
+    starts = range(0, len(numbers), AMOUNTS_SHOWN + len(area.coordinators))
+    return [(numbers[at] + numbers[at + 1], numbers[at + 2]) for at in starts]
+
+
+def passes(area, hour, direction):
+    """The passing areas are those with flag 1 and a deficiency of exactly 0 in that direction."""
+    deficiency = {UPWARD: upward_deficiency, DOWNWARD: downward_deficiency}[direction]
+    return area.flag == 1 and deficiency(hour) == 0
+
+
+def basis_is_right(basis, n):
+    """24 numbers an area, areas in file order, 0 to 10,000,000, summing to at most that per hour. The
+    numbers have no sign."""
+    return (
+        len(basis) == HOURS * n
+        and all(0 <= number <= MOST_BASIS for number in basis)
+        and all(sum(basis[hour::HOURS]) <= MOST_BASIS for hour in range(HOURS))
+    )
+
+
+def paid_and_rest(collected, passing_basis):
+    """The payments of the passing areas, in file order, and the unpaid rest."""
+    # The rest is all of it when nobody passes or the passing basis is 0, else 0.
+    if sum(passing_basis) == 0:
+        return [0] * len(passing_basis), collected
+    # Payments are shares of the collected amount by running totals over the passing areas.
+    return shares(collected, passing_basis), 0
+
+
+def payments_needed(n):
+    """Two for each area and hour, and the 24 pairs of rests."""
+    return 2 * HOURS * n + 2 * HOURS
+
+
+def payments_and_rests(areas, amounts_of_areas, basis):
+    """Payments stand by area, then hour, upward before downward; the 24 pairs of rests follow."""
+    n = len(areas)
+    # The rests stand where the payments of one more area would.
+    numbers = [0] * payments_needed(n)
+    for hour, direction in itertools.product(range(HOURS), (UPWARD, DOWNWARD)):
+        at = 2 * hour + direction
+        # The collected amount is the sum over all areas of the file.
+        collected = sum(amounts_of_areas[area][hour][direction] for area in range(n))
+        # Non-passing ones get 0.
+        passing = [k for k, area in enumerate(areas) if passes(area, area.hours[hour], direction)]
+        paid, rest = paid_and_rest(collected, [basis[HOURS * k + hour] for k in passing])
+        for k, payment in zip(passing, paid):
+            numbers[2 * HOURS * k + at] = payment
+        numbers[2 * HOURS * n + at] = rest
+    return numbers
+
+
+def pay_out(file_bytes, basis, payments):
+    """Number, place and the payments afterwards. A refusal writes nothing; numbers past the needed
+    ones stay."""
+    number, place = check(file_bytes)
+    if number != 0:
+        return number, place, list(payments)
+    areas = areas_of(words_of(file_bytes))
+    # Refusals after those of settlement; never 13, no statement is lent.
+    try:
+        amounts_of_areas = [settled_amounts(area) for area in areas]
+    except Refused as refusal:
+        return refusal.number, refusal.place, list(payments)
+    # 23, basis not 24 numbers an area, or out of range or sum.
+    if not basis_is_right(basis, len(areas)):
+        return 23, 0, list(payments)
+    # 24, payment room too short, place the numbers needed.
+    needed = payments_needed(len(areas))
+    if len(payments) < needed:
+        return 24, needed, list(payments)
+    return 0, 0, payments_and_rests(areas, amounts_of_areas, basis) + list(payments[needed:])
+
+
 # The other calls
 
 
@@ -1052,6 +1140,82 @@ def month_figures():
     yield "its file, freed words", True, room[4 * 5 :] == day_after + bytes(4 * 810) + behind
 
 
+def set_amounts(hour, upward, downward):
+    """Failures for which an area with d 0 pays so many cents in an hour outside peak hours: upward 50 MW
+    in tier 3, downward 100 MW, each at a price of so many hundredths of a cent. 0 is no failure."""
+    if upward != 0:
+        hour.energy_up, hour.requirement = 50000, 60000
+        hour.pairs = [(1000, upward)] * len(hour.pairs)
+    if downward != 0:
+        hour.regulation_down, hour.mec = 100000, downward
+
+
+def payout_day():
+    """A day of five areas, the last with flag 0, and its basis: 1 for each area and hour, but 0 in hour
+    ending 1."""
+    import days
+
+    areas = [
+        days.quiet_area(number, kind=0, load_points=1, coordinators=[12], pair=(1000, 0))
+        for number in (7, 9, 11, 13, 15)
+    ]
+    first, second, third, fourth, fifth = areas
+    fifth.flag = 0
+    # Hour ending 1 collects 100 cents and the areas that pass have no basis. Hour ending 3 collects the
+    # same of the first, hour ending 4 -100 cents of the second.
+    set_amounts(first.hours[0], 100, 0)
+    set_amounts(first.hours[2], 100, 0)
+    set_amounts(second.hours[3], 0, -100)
+    # Hour ending 5: 5 MW downward neither pay nor pass. Hour ending 6: nobody passes.
+    set_amounts(second.hours[4], 0, -100)
+    first.hours[4].energy_down = 5000
+    set_amounts(second.hours[5], 0, -100)
+    for area in (first, third, fourth):
+        area.hours[5].energy_down = 1
+    # The fourth fails in hour ending 7 with 40 MW in tier 3, at $1.00: S is $80.00 in every peak hour.
+    # At $0.50 the credit of hour ending 8 is $20.00.
+    fourth.hub_a = fourth.hub_b = 100
+    fourth.hours[6].energy_up, fourth.hours[6].requirement = 40000, 60000
+    fourth.hours[7].pairs = [(1000, 5000)] * 12
+    return days.Day(20260504, PEAK_WORD, areas).to_bytes(), ([0] + 23 * [1]) * 5
+
+
+def payout_figures():
+    """Document 02, §7: for an hour and direction the payments of the five areas, and the rest."""
+    file_bytes, basis = payout_day()
+    number, place, payments = pay_out(file_bytes, basis, [-1] * 290)
+    yield "number and place of the payments", (0, 0), (number, place)
+
+    def of_hour(hour_ending, direction):
+        return payments[2 * (hour_ending - 1) + direction : 288 : 2 * HOURS]
+
+    for name, hour_ending, direction, due in (
+        ("100 cents, a basis of 0", 1, UPWARD, [0, 0, 0, 0, 0, 100]),
+        ("nothing collected", 2, UPWARD, [0, 0, 0, 0, 0, 0]),
+        ("100 cents over 1, 1, 1", 3, UPWARD, [0, 33, 34, 33, 0, 0]),
+        ("-100 cents over 1, 1, 1", 4, DOWNWARD, [-33, 0, -34, -33, 0, 0]),
+        ("-100 cents, and 5 MW that do not pass", 5, DOWNWARD, [0, 0, -50, -50, 0, 0]),
+        ("-100 cents, and nobody passes", 6, DOWNWARD, [0, 0, 0, 0, 0, -100]),
+        ("$80.00 in the hour that failed", 7, UPWARD, [2667, 2666, 2667, 0, 0, 0]),
+        ("$60.00 of one that pays and passes", 8, UPWARD, [1500, 1500, 1500, 1500, 0, 0]),
+        ("$80.00 of one that pays and passes", 22, UPWARD, [2000, 2000, 2000, 2000, 0, 0]),
+    ):
+        yield name, due, of_hour(hour_ending, direction)
+    # 200 cents off-peak, 15 times $80.00 and once $60.00, and three times -100 cents.
+    yield "payments and rests together", 125900, sum(payments[:288])
+    yield "what is behind them", [-1, -1], payments[288:]
+    _, _, statement = settle(file_bytes, [0] * (5 * DAY_OF_ONE))
+    yield "the charges together", 125900, sum(statement[AMOUNTS_SHOWN::HOUR_OF_ONE])
+
+    for name, due, lent_basis, room in (
+        ("a basis of 119 numbers", (23, 0, True), basis[:119], 0),
+        ("10,000,001 with that of flag 0", (23, 0, True), basis[:96] + [9999997] * 24, 288),
+        ("a room of 287", (24, 288, True), basis, 287),
+    ):
+        number, place, payments = pay_out(file_bytes, lent_basis, [-1] * room)
+        yield name, due, (number, place, payments == [-1] * room)
+
+
 def in_calendar(word):
     """Whether YYYYMMDD is a date of Python's own calendar."""
     try:
@@ -1116,6 +1280,7 @@ def main():
         record_figures,
         month_figures,
         date_figures,
+        payout_figures,
         downward_figures,
         call_figures,
     ):

@@ -20,10 +20,12 @@ A case is four little-endian words (call, x, y, payload bytes) and the payload:
     9 month    a word p, a book in its room, x numbers lent    number, place, p places, the x numbers
    10 add      a word b, b bytes of a book's room, a day file  number, place, digest of the b bytes
    11 withdraw a book in its room, x the date                  number, place, digest of the room
+   12 pay out  a word m, m words of basis, a day file, x lent  number, place, the x payments
 
 A record is 18 words, the last day entered, the number of areas held and 8 places of two words; call
 8 settles with it. A book has any number of words or bytes behind it in its room; call 9 settles its
-days with a table of p places, calls 10 and 11 add a day to it and withdraw one.
+days with a table of p places, calls 10 and 11 add a day to it and withdraw one. The basis of call 12 is
+24 words an area, without a sign.
 
 The expected lines come from reference.py alone. Each group of cases is one generator function with
 a seed of its own, so that a group added or left out does not move another.
@@ -49,16 +51,18 @@ INPUT = ROOT / "crates" / "vectors" / "stdin"
 EXPECTED = ROOT / "crates" / "vectors" / "stdout"
 
 # The calls that the committed stream holds: those that the vectors program has.
-CALLS = (1, 2, 3, 4, 5, 6, 7, 8, 9, 10, 11)
-ALL_CALLS = (1, 2, 3, 4, 5, 6, 7, 8, 9, 10, 11)
+CALLS = (1, 2, 3, 4, 5, 6, 7, 8, 9, 10, 11, 12)
+ALL_CALLS = (1, 2, 3, 4, 5, 6, 7, 8, 9, 10, 11, 12)
 
 CHECK, SETTLE, PRICE, SHARE, LOOKUP, C_CALL, ENTER, RECORDED = ALL_CALLS[:8]
-MONTH, ADD_DAY, WITHDRAW_DAY = ALL_CALLS[8:]
+MONTH, ADD_DAY, WITHDRAW_DAY, PAY_OUT = ALL_CALLS[8:]
 
-# What the vectors program has room for: bytes of a payload, numbers lent, places lent in a table.
+# What the vectors program has room for: bytes of a payload, numbers lent, places lent in a table, words
+# of a basis.
 MOST_PAYLOAD = 262144
 MOST_LENT = 8192
 MOST_PLACES = 64
+MOST_BASIS_WORDS = 1024
 
 # What rt takes of a program's output.
 MOST_LINES_BYTES = 1048576
@@ -117,9 +121,15 @@ def record_arguments(payload):
 
 
 def counted(payload):
-    """The word that stands first in the payload of calls 9 and 10, and what is behind it."""
+    """The word that stands first in the payload of calls 9, 10 and 12, and what is behind it."""
     (count,) = struct.unpack("<I", payload[:4])
     return count, payload[4:]
+
+
+def payout_arguments(payload):
+    """The numbers of the basis, without a sign, and the day file behind them."""
+    count, rest = counted(payload)
+    return list(struct.unpack("<%dI" % count, rest[: 4 * count])), rest[4 * count :]
 
 
 def answers(case):
@@ -159,6 +169,10 @@ def answers(case):
     if call == WITHDRAW_DAY:
         number, place, room = reference.withdraw_day(payload, x)
         return number, place, digest(room)
+    if call == PAY_OUT:
+        basis, file_bytes = payout_arguments(payload)
+        number, place, payments = reference.pay_out(file_bytes, basis, lent_numbers(x))
+        return [number, place] + payments
     coded, after = reference.c_call(payload, lent_bytes(x))
     return coded, digest(after)
 
@@ -2722,6 +2736,410 @@ def withdraw_random(rng):
         yield random_withdraw_case(rng, most_days=3)
 
 
+# Call 12: paying out
+
+
+MOST_BASIS = reference.MOST_BASIS
+
+
+def payout_case(file_bytes, basis, lent):
+    assert len(basis) <= MOST_BASIS_WORDS
+    return Case(PAY_OUT, lent, days.bytes_of([len(basis)] + list(basis)) + file_bytes)
+
+
+def payout_of(day, basis):
+    """A day in exactly the room that it needs: paid out, or what is refused."""
+    return payout_case(day.to_bytes(), basis, reference.payments_needed(len(day.areas)))
+
+
+def level_basis(*numbers):
+    """For each area one number in every hour."""
+    return [number for number in numbers for _ in range(24)]
+
+
+def basis_of_hours(hours):
+    """A basis given by hours, each with a number for each area."""
+    assert len(hours) == 24
+    return [number for of_area in zip(*hours) for number in of_area]
+
+
+def payout_worked_day(rng):
+    """The day of reference.py's figures, with numbers behind the rests."""
+    file_bytes, basis = reference.payout_day()
+    yield payout_case(file_bytes, basis, 290)
+
+
+# The basis of an area that pays.
+PAYER_BASIS = 17
+
+# For each hour an amount collected, and the basis of the three areas that pass.
+PAID_FIGURES = (
+    # T11 with two of them merged, T12, and the like.
+    (100, (1, 1, 1)),
+    (100, (2, 0, 1)),
+    (100, (0, 2, 1)),
+    (1, (1, 0, 1)),
+    (1, (0, 1, 1)),
+    (1, (0, 0, 1)),
+    (3, (1, 1, 0)),
+    (5, (1, 1, 1)),
+    (7, (0, 5, 0)),
+    # Halves of a cent, and what is next to them.
+    (1, (4000000, 0, 4000000)),
+    (1, (3999999, 1, 4000000)),
+    (1, (3999999, 0, 4000001)),
+    (1, (4000000, 0, 3999999)),
+    (9, (1, 2, 3)),
+    (15, (3, 4, 3)),
+    (25, (1, 2, 7)),
+    # Nothing is collected, or nothing can be paid.
+    (0, (1, 1, 1)),
+    (0, (0, 0, 0)),
+    (123, (0, 0, 0)),
+    # Large amounts, and a basis that sums to the most with that of the area that pays.
+    (20000000, (9999982, 0, 1)),
+    (19999999, (1, 9999982, 0)),
+    (19999993, (3333333, 3333333, 3333317)),
+    (1, (1, 0, 9999982)),
+    (9999983, (9999981, 1, 1)),
+)
+
+
+def paying_day(payers, figures):
+    """Four areas without peak hours: one pays upward and one downward, an amount for each hour."""
+    day = days.quiet_day([SMALL] * 4, peak=0)
+    for hour, (amount, _) in enumerate(figures):
+        for payer, (upward, downward) in zip(payers, ((amount, 0), (0, -amount))):
+            reference.set_amounts(day.areas[payer].hours[hour], upward, downward)
+    return day
+
+
+def payout_shares(rng):
+    """Shares of 24 amounts upward, and of the same below 0 downward, over three areas that pass. The
+    basis of the one that pays does not count, unless it is another that pays downward."""
+    for payers in ((0, 0), (3, 3), (1, 2)):
+        hours = []
+        for _, passing in PAID_FIGURES:
+            numbers = list(passing)
+            numbers.insert(payers[0], PAYER_BASIS)
+            hours.append(numbers)
+        yield payout_of(paying_day(payers, PAID_FIGURES), basis_of_hours(hours))
+
+
+def payout_collected(rng):
+    """What several areas pay is collected together: none, one, two or all three of them in an hour, in
+    each direction on its own; who does not pay passes."""
+    day = days.quiet_day([SMALL] * 3, peak=0)
+    hours = []
+    for hour in range(24):
+        upward_payers, downward_payers = hour % 8, rng.randrange(8)
+        for place, area in enumerate(day.areas):
+            upward = between(rng, 1, 999) if upward_payers >> place & 1 else 0
+            downward = -between(rng, 1, 999) if downward_payers >> place & 1 else 0
+            reference.set_amounts(area.hours[hour], upward, downward)
+        hours.append([between(rng, 1, 9) for _ in day.areas])
+    yield payout_of(day, basis_of_hours(hours))
+    # One area with flag 0 pays nothing, and gets nothing.
+    day.areas[1].flag = 0
+    yield payout_of(day, basis_of_hours(hours))
+
+
+# Numbers of an hour that an area has, outside peak hours: with or without a deficiency in a direction.
+PASSING_FIGURES = (
+    {},
+    {"requirement": 50000000, "mec": -20000000},
+    # U is 0.001 MW in each of its four numbers, 0.004 MW, 10.000 and 10.001 MW.
+    {"energy_up": 1},
+    {"regulation_up": 1},
+    {"spin": 1},
+    {"non_spin": 1},
+    {"energy_up": 1, "regulation_up": 1, "spin": 1, "non_spin": 1},
+    {"energy_up": 10000},
+    {"spin": 10001},
+    {"non_spin": 10000, "requirement": 50000000},
+    {"energy_up": 500000, "requirement": 50000000},
+    # W is 0.001 MW in each of its two numbers, 5, 9.999, 10.000 and 10.001 MW.
+    {"energy_down": 1, "mec": -100},
+    {"regulation_down": 1, "mec": -100},
+    {"energy_down": 2500, "regulation_down": 2500, "mec": -100},
+    {"energy_down": 9999, "mec": -100},
+    {"energy_down": 10000, "mec": -100},
+    {"energy_down": 5000, "regulation_down": 5000, "mec": -100},
+    {"energy_down": 10001, "mec": -100},
+    {"energy_down": 5000, "regulation_down": 5001, "mec": -100},
+    # Above 10 MW, and nothing is due: it does not pass either.
+    {"regulation_down": 10001, "mec": 100},
+    {"energy_down": 10001, "mec": 0},
+    {"energy_down": 10001, "mec": -4},
+    # Both.
+    {"energy_up": 1, "regulation_down": 1, "mec": -100},
+    {"spin": 10001, "energy_down": 10001, "mec": -100},
+)
+
+
+def payout_passing(rng):
+    """Who passes: an area with each of the figures, beside one that pays in every hour and one without
+    any deficiency, which passes; with flag 1 and with flag 0, and of both kinds."""
+    for shape, flag, other_flag in ((SMALL, 1, 1), (SMALL, 0, 1), (CISO, 1, 0)):
+        day = days.quiet_day([SMALL, shape, SMALL], peak=0)
+        payer, tried, other = day.areas
+        tried.flag, other.flag = flag, other_flag
+        for hour, numbers in enumerate(PASSING_FIGURES):
+            reference.set_amounts(payer.hours[hour], 1000, -1000)
+            for name, value in numbers.items():
+                setattr(tried.hours[hour], name, value)
+        yield payout_of(day, level_basis(8, 2, 1))
+
+
+def payout_rests(rng):
+    """The rest is all of it when nobody passes or the passing basis is 0: one area alone that pays, that
+    passes or has flag 0, and two of which the other has 0.001 MW, a basis of 0 or flag 0."""
+    figures = [(100 + hour, (0, 0, 0)) for hour in range(24)]
+    alone = paying_day((0, 0), figures)
+    alone.areas = alone.areas[:1]
+    for basis in (level_basis(1), level_basis(0), level_basis(MOST_BASIS)):
+        yield payout_of(alone, basis)
+    alone.areas[0].flag = 0
+    yield payout_of(alone, level_basis(1))
+    yield payout_of(days.quiet_day([SMALL]), level_basis(1))
+
+    two = paying_day((0, 0), figures)
+    two.areas = two.areas[:2]
+    for number, hour in enumerate(two.areas[1].hours):
+        # Upward, downward, in both and in neither.
+        hour.non_spin, hour.regulation_down = number % 2, number // 2 % 2
+    some = [(MOST_BASIS - 7, 7), (MOST_BASIS, 0), (0, 7)] * 8
+    yield payout_of(two, basis_of_hours(some))
+    two.areas[1].flag = 0
+    yield payout_of(two, basis_of_hours(some))
+
+
+def with_passing_area(day, flag=1):
+    """The one area of a day, and behind it one that passes in every hour and direction."""
+    other = days.quiet_day([SMALL, SMALL]).areas[1]
+    other.flag = flag
+    day.areas.append(other)
+    return day
+
+
+def payout_peak_hours(rng):
+    """T6 and T7: in a peak hour of tier 0 of its own failed day an area pays and passes, in one of tier
+    1 it pays and does not pass. On a day of tier 1 it pays nothing, and passes where U is 0. The other
+    area passes, or nobody but the first does. d is the file's own."""
+    basis = level_basis(2, 1)
+    yield payout_of(with_passing_area(on_peak_day()), basis)
+    yield payout_of(with_passing_area(on_peak_day(persistent_days=30, failing=300001), flag=0), basis)
+    yield payout_of(with_passing_area(on_peak_day(failing=10000)), basis)
+    # S is 0, and a negative credit is an amount.
+    yield payout_of(with_passing_area(on_peak_day(hub_a=-8000, hub_b=-1)), basis)
+    # The same with flag 0, where the other fails.
+    day = with_passing_area(on_peak_day())
+    day.areas[0].flag = 0
+    fail(day.areas[1].hours[20])
+    day.areas[1].hub_a = 1
+    yield payout_of(day, basis)
+    # One area alone: what it pays in the hours that it passed comes back to it.
+    yield payout_of(on_peak_day(), level_basis(1))
+    # Each fails in hours in which the other passes, on-peak and off-peak.
+    day = with_passing_area(on_peak_day(persistent_days=5))
+    day.areas[1].hub_a = 77
+    for hour, upward in ((9, 20000), (10, 12345), (2, 20000), (3, 30001)):
+        fail(day.areas[1].hours[hour], upward)
+    fail(day.areas[0].hours[23], 99999)
+    yield payout_of(day, level_basis(3, 4))
+
+
+def payout_kinds(rng):
+    """CISO pays and others pass, or others pay and CISO passes, as the first area and as the last; with
+    two load points and with 64 coordinators, for which a statement would need far more numbers."""
+    for shapes in ([CISO, SMALL], [SMALL, CISO], [(0, 2, 1), (1, 2, 64)]):
+        day = days.quiet_day(shapes, peak=0)
+        for hour in range(24):
+            payer = day.areas[hour % 2]
+            reference.set_amounts(payer.hours[hour], 100 + hour, -200 - hour)
+        yield payout_of(day, level_basis(3, 5))
+    # No demand in any hour: refused only where the three amounts together are not 0. 20 MW at 25.00 and
+    # 1.25 is $625.00, 20 MW at -31.25 takes it back; in each direction it is collected.
+    for mec, lent in ((-312500, 144), (-312501, 144), (-312600, 2)):
+        day = days.quiet_day([(1, 1, 2), SMALL], peak=0, demand=0)
+        hour = day.areas[0].hours[17]
+        hour.requirement, hour.energy_up, hour.energy_down, hour.mec = 60000, 20000, 20000, mec
+        yield payout_case(day.to_bytes(), level_basis(3, 5), lent)
+
+
+def payout_largest(rng):
+    """Eight areas with the largest amounts, together beyond 10,000,000,000 cents: seven pay off-peak and
+    downward and one passes, or five pay and three pass; and a peak hour in which all pay, with the
+    largest S and a credit below 0, and all pass."""
+    for passing in ((1,), (1, 4, 7)):
+        day = days.quiet_day([SMALL] * 8, peak=0)
+        for place, area in enumerate(day.areas):
+            area.persistent_days = 30
+            if place not in passing:
+                for hour in area.hours[22:]:
+                    hour.set_upward([2500000] * 4)
+                    hour.set_downward([2500000] * 2)
+                    hour.mec, hour.pairs = -20000000, [(1000, 20000000)] * 12
+        some = [(0, MOST_BASIS, 0, 0, 0, 0, 0, 0), (1, 3333333, 1, 1, 3333333, 0, 0, 3333331)] * 12
+        yield payout_of(day, basis_of_hours(some))
+    day = days.quiet_day([SMALL] * 8)
+    for area in day.areas:
+        area.persistent_days, area.hub_a = 30, 200000
+        for hour in area.hours[6:22]:
+            hour.set_upward([2500000] * 4)
+        area.hours[14].set_upward([0] * 4)
+        area.hours[14].pairs = [(1000, -20000000)] * 12
+    yield payout_of(day, level_basis(*[1249999] * 7, 1250007))
+
+
+def told_payout_day(count):
+    """Areas of which the first pays 1,000 cents upward in hour ending 3, where the others pass."""
+    day = days.quiet_day([SMALL] * count, peak=0)
+    reference.set_amounts(day.areas[0].hours[2], 1000, 0)
+    return day
+
+
+def payout_rooms(rng):
+    """Refusal 24: one number short of 48n + 48, just enough, and numbers behind, which stay; one number
+    and none."""
+    for count, rooms in ((1, (95, 96, 97, 99)), (2, (144, 146)), (8, (432, 434))):
+        for lent in rooms + (1, 0):
+            yield payout_case(told_payout_day(count).to_bytes(), level_basis(*[7] * count), lent)
+
+
+def payout_basis_sizes(rng):
+    """Refusal 23 for a basis that is not 24 numbers an area. With one number lent a right one is
+    followed by 24."""
+    for count in (1, 2, 8):
+        file_bytes = told_payout_day(count).to_bytes()
+        due = 24 * count
+        for size in (due - 1, due, due + 1, 0, 1, due - 24, due + 24):
+            yield payout_case(file_bytes, [3] * size, 1)
+    for size in (24, 48, 768, MOST_BASIS_WORDS):
+        yield payout_case(file_bytes, [0] * size, 1)
+
+
+def payout_basis_ranges(rng):
+    """Refusal 23 for a number above 10,000,000: of an area that passes and of one that does not, in the
+    first and last hour and in the one in which something is collected."""
+    for count in (1, 2):
+        file_bytes = told_payout_day(count).to_bytes()
+        for place in (0, 2, 23, 24, 26, 47)[: 3 * count]:
+            for number in (MOST_BASIS, MOST_BASIS + 1, 0x7FFFFFFF, 0x80000000, 0xFFFFFFFF):
+                basis = [0] * (24 * count)
+                basis[place] = number
+                yield payout_case(file_bytes, basis, 1)
+    # Each number at its most, and one of them above.
+    file_bytes = told_payout_day(1).to_bytes()
+    yield payout_case(file_bytes, level_basis(MOST_BASIS), 96)
+    yield payout_case(file_bytes, [MOST_BASIS] * 23 + [MOST_BASIS + 1], 1)
+
+
+def payout_basis_sums(rng):
+    """Refusal 23 for an hour's sum above 10,000,000, in the first and last hour and in the one in which
+    something is collected; with what an area with flag 0 and one with a deficiency has, and words whose
+    sum 32 bits do not hold."""
+    three = told_payout_day(3)
+    three.areas[1].flag = 0
+    three.areas[2].hours[0].energy_up = three.areas[2].hours[0].energy_down = 1
+    some = (
+        (MOST_BASIS, 0, 0),
+        (MOST_BASIS - 1, 0, 1),
+        (3333333, 3333333, 3333334),
+        (3333333, 3333334, 3333334),
+        (MOST_BASIS, 1, 0),
+        (0, MOST_BASIS, 1),
+        (0, 1, MOST_BASIS),
+        (MOST_BASIS, MOST_BASIS, MOST_BASIS),
+        (0x80000000, 0x80000000, 0),
+        (0xFFFFFFFF, 1, 0),
+        (0, 2, 0xFFFFFFFF),
+        (0x7FFFFFFF, 0x7FFFFFFF, 2),
+        (0x55555555, 0x55555555, 0x55555556),
+    )
+    for hour in (0, 2, 23):
+        for numbers in some:
+            hours = [(5, 6, 7)] * 24
+            hours[hour] = numbers
+            yield payout_case(three.to_bytes(), basis_of_hours(hours), 1)
+    # Each hour has its own sum, at its most.
+    hours = [some[hour % 3] for hour in range(24)]
+    yield payout_case(three.to_bytes(), basis_of_hours(hours), 192)
+    eight = told_payout_day(8).to_bytes()
+    for last in (1250000, 1250001):
+        yield payout_case(eight, level_basis(*[1250000] * 7, last), 1)
+        yield payout_case(eight, [1250000] * 191 + [last], 1)
+    for numbers in ([0x20000000] * 8, [0x20000001] * 8, [MOST_BASIS] * 8):
+        yield payout_case(eight, level_basis(*numbers), 1)
+
+
+def payout_order(rng):
+    """The check's numbers and 16, 11, 12 before 23 and 24, and 23 before 24; nothing is written."""
+    broken = [MOST_BASIS + 1] + [0] * 22
+    for file_bytes in refused_files(rng):
+        yield payout_case(file_bytes, broken, 0)
+        yield payout_case(file_bytes, level_basis(1), 2)
+    for day in days_that_settling_refuses():
+        for basis, lent in itertools.product((broken, level_basis(1)), (0, 2)):
+            yield payout_case(day.to_bytes(), basis, lent)
+    small = told_payout_day(1).to_bytes()
+    for basis in (broken, level_basis(1)[:23], level_basis(MOST_BASIS + 1), level_basis(1), []):
+        for lent in (0, 2):
+            yield payout_case(small, basis, lent)
+    # In all of the room: a refusal of the last hour, and one of the last number of the basis.
+    yield payout_of(day, level_basis(1))
+    yield payout_case(small, level_basis(1)[:23] + [MOST_BASIS + 1], 96)
+    # The largest file that is accepted, of which a word is broken, and one that is longer.
+    largest = largest_file(DATE)
+    yield payout_case(largest, broken, 0)
+    yield payout_case(largest + bytes(4), broken, 0)
+    yield payout_case(with_words(largest, (3, 1)), broken, 0)
+    yield payout_case(largest + bytes(65540 - len(largest)), broken, 0)
+
+
+def payout_order_of_hours(rng):
+    """16, 11 and 12 in one file: areas and hours in order, in each hour 16, 11, 12."""
+    for places in ((3, 4, 5), (23, 11, 0), (8, 8, 8)):
+        for order in itertools.permutations(UNSETTLED):
+            day = failing_day([(1, 1, 2)])
+            for hour, refusal in zip(places, order):
+                refusal(day.areas[0].hours[hour])
+            yield payout_case(day.to_bytes(), [], 0)
+    for order in itertools.permutations(UNSETTLED):
+        day = failing_day([(1, 1, 2) if refusal == dry else SMALL for refusal in order])
+        for area, hour, refusal in zip(day.areas, (20, 10, 0), order):
+            refusal(area.hours[hour])
+        yield payout_case(day.to_bytes(), level_basis(1, 1, 1), 0)
+    # Only the last of two areas, in its last hour.
+    for refusal in UNSETTLED:
+        day = failing_day([SMALL, (1, 1, 2)])
+        refusal(day.areas[1].hours[23])
+        yield payout_case(day.to_bytes(), level_basis(1, 1), 1)
+
+
+def areas_said(file_bytes):
+    """The number of areas that a file says, if it is one that a file can have, or 1."""
+    words = reference.words_of(file_bytes[: len(file_bytes) // 4 * 4])
+    return words[2] if len(words) > 2 and 1 <= words[2] <= 8 else 1
+
+
+def payout_vector_files(rng):
+    """The files of vectors/ with a random basis: those that are paid out in exactly their room."""
+    for file_bytes in vector_files():
+        n = areas_said(file_bytes)
+        basis = random_basis(rng, n)
+        number, _, _ = reference.pay_out(file_bytes, basis, [])
+        yield payout_case(file_bytes, basis, reference.payments_needed(n) if number == 24 else 2)
+
+
+def payout_random(rng):
+    """Random days of few areas; two numbers are lent where they are refused."""
+    for _ in range(24):
+        case = random_payout_case(rng, most_areas=3)
+        number = answers(case)[0]
+        yield case if number == 0 else case._replace(x=2)
+
+
 # All groups in the stream's order, each with the call that it makes
 
 GROUPS = (
@@ -2829,6 +3247,22 @@ GROUPS = (
     (WITHDRAW_DAY, withdraw_orders),
     (WITHDRAW_DAY, withdraw_full),
     (WITHDRAW_DAY, withdraw_random),
+    (PAY_OUT, payout_worked_day),
+    (PAY_OUT, payout_shares),
+    (PAY_OUT, payout_collected),
+    (PAY_OUT, payout_passing),
+    (PAY_OUT, payout_rests),
+    (PAY_OUT, payout_peak_hours),
+    (PAY_OUT, payout_kinds),
+    (PAY_OUT, payout_largest),
+    (PAY_OUT, payout_rooms),
+    (PAY_OUT, payout_basis_sizes),
+    (PAY_OUT, payout_basis_ranges),
+    (PAY_OUT, payout_basis_sums),
+    (PAY_OUT, payout_order),
+    (PAY_OUT, payout_order_of_hours),
+    (PAY_OUT, payout_vector_files),
+    (PAY_OUT, payout_random),
 )
 
 
@@ -3052,9 +3486,59 @@ def random_withdraw_case(rng, most_days=reference.MOST_DAYS):
     return withdraw_case(room, date)
 
 
+def random_basis(rng, n):
+    """A basis of n areas that keeps its rule: in an hour none, small numbers, or up to just the most."""
+    hours = []
+    for _ in range(24):
+        most = rng.choice((0, 1, 3, 1000, MOST_BASIS, MOST_BASIS))
+        numbers = days.demands_of(rng, n, most)
+        if chance(rng, 20):
+            numbers[rng.randrange(n)] += most - sum(numbers)
+        turn = rng.randrange(n)
+        hours.append(numbers[turn:] + numbers[:turn])
+    return basis_of_hours(hours)
+
+
+def damaged_basis(rng, basis):
+    """Another length, another number, or an hour whose sum is one above the most."""
+    what = rng.randrange(4)
+    place = rng.randrange(len(basis))
+    if what == 0:
+        return rng.choice((basis[:-1], basis + [0], basis[24:], basis + [1] * 24, [], basis[:place]))
+    changed = list(basis)
+    if what < 3:
+        changed[place] = damaged_word(rng, basis[place])
+    else:
+        changed[place] += MOST_BASIS + 1 - sum(basis[place % 24 :: 24])
+    return changed
+
+
+def random_payout_case(rng, most_areas=8):
+    """Mostly a whole day of some areas with a basis that keeps its rule; in most hours of most areas
+    there is no deficiency, so that some pay and others pass."""
+    count = min(most_areas, rng.choice((1, 2, 2, 2, 3, 3, 3, 4, 5, between(rng, 1, 8))))
+    shapes = [SMALL] * count
+    shapes[rng.randrange(count)] = rng.choice((SMALL, (1, 1, between(rng, 1, 4))))
+    style = rng.choice((days.REALISTIC, days.REALISTIC, None))
+    file_bytes = days.random_day_of(rng, shapes, style).to_bytes()
+    if chance(rng, 20):
+        # Any file may have more areas than the most that is asked.
+        file_bytes = random_file(rng) if most_areas == 8 else damaged(rng, file_bytes, 1)
+    n = areas_said(file_bytes)
+    basis = random_basis(rng, n)
+    if chance(rng, 12):
+        basis = damaged_basis(rng, basis)
+    lent = reference.payments_needed(n)
+    if chance(rng, 20):
+        lent += rng.choice((-1, 1, 5, between(rng, -lent, 20)))
+    return payout_case(file_bytes, basis, lent)
+
+
 def random_case(rng, call):
     if call in (ENTER, RECORDED):
         return random_record_case(rng, call)
+    if call == PAY_OUT:
+        return random_payout_case(rng)
     if call == MONTH:
         return random_month_case(rng)
     if call == ADD_DAY:

@@ -47,7 +47,7 @@ module _ (body : List ℕ) (sound : Sound plainPoints body) (h : ℕ) (below : h
   price-small = price-within _ _ (pairs-ranged body sound h below .ranged)
 
   module _ (terms : Terms) where
-    down-small : natAbs (downwardAmount terms body h) ≤ mostDownwardAmount
+    pub down-small : natAbs (downwardAmount terms body h) ≤ mostDownwardAmount
     unfolding downwardAmount
     down-small =
         where-made mostDownwardAmount (eqb (flagOf body) 1) _
@@ -91,7 +91,7 @@ module _ (body : List ℕ) (sound : Sound plainPoints body) (h : ℕ) (below : h
       one-of true false on off p q = omega (arith, abs-add (pos 0) off)
       one-of false t on off p q = zero-le
 
-      upward-small : natAbs (onPeakAmount terms body h +ℤ offPeakAmount terms body h) ≤ mostOnPeakAmount
+      pub upward-small : natAbs (onPeakAmount terms body h +ℤ offPeakAmount terms body h) ≤ mostOnPeakAmount
       unfolding onPeakAtPrice offPeakAtPrice onPeakAmount offPeakAmount
       upward-small = one-of (eqb (flagOf body) 1) (peakHour terms h) _ _ on-of off-of
 

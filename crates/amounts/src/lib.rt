@@ -36,7 +36,7 @@ pub struct Amounts {
 }
 
 // U of the hour that starts at word `at`.
-fn upward(body: &[u8], at: usize) -> Quantity
+pub fn upward(body: &[u8], at: usize) -> Quantity
     requires { ⌜ HourRanged (now body) at ⌝ }
     ensures { λ r. ⌜ r .0 ≡ upwardFrom (now (body .entry)) at ⌝ }
 {
@@ -48,7 +48,7 @@ fn upward(body: &[u8], at: usize) -> Quantity
 }
 
 // W of the hour that starts at word `at`.
-fn downward_quantity(body: &[u8], at: usize) -> Quantity
+pub fn downward_quantity(body: &[u8], at: usize) -> Quantity
     requires { ⌜ HourRanged (now body) at ⌝ }
     ensures { λ r. ⌜ r .0 ≡ downwardFrom (now (body .entry)) at ⌝ }
 {

@@ -5,6 +5,10 @@ use Prim.Native.Nat.{ℕ, _+_, _*_}
 abbrev pub dayHours : ℕ
 dayHours = 24
 
+-- the payments of an area: for each hour an upward and a downward one
+abbrev pub dayPayments : ℕ
+dayPayments = 2 * dayHours
+
 -- "upward deficiencies ..; downward deficiencies .. (each 0 to 2,500,000)"
 abbrev pub mostDeficiency : ℕ
 mostDeficiency = 2500000
@@ -40,6 +44,10 @@ mostDays = 30
 -- "the preceding thirty calendar days"
 abbrev pub recordedDays : ℕ
 recordedDays = 30
+
+-- "a basis for each area and hour .., 0 to 10,000,000, summing to at most that per hour"
+abbrev pub mostBasis : ℕ
+mostBasis = 10000000
 
 -- "1 to 2,147,483,647", of area numbers and of coordinator numbers
 abbrev pub largestNumber : ℕ

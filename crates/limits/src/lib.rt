@@ -6,6 +6,8 @@ ghost use Rattle.limits.specs.Editions.{editionOne, limitsOf, bytesAllow
 // ---- ranges
 
 pub const DAY_HOURS: usize = 24;
+// an upward and a downward one for each hour
+pub const DAY_PAYMENTS: usize = 2 * DAY_HOURS;
 
 pub const MOST_DEFICIENCY: u32 = 2500000;
 
@@ -24,6 +26,8 @@ pub const MOST_HUB_PRICE: u32 = 200000;
 pub const MOST_DAYS: u32 = 30;
 // of the record of failing days
 pub const RECORDED_DAYS: u32 = 30;
+// of an area in an hour, and of all areas together
+pub const MOST_BASIS: u32 = 10000000;
 // of an area and of a coordinator
 pub const LARGEST_NUMBER: u32 = 2147483647;
 

@@ -8,5 +8,7 @@ pub mod AddsUp
 pub mod WithinACent
 pub mod Merged
 pub mod Nothing
+pub mod NoDemand
+pub mod Sign
 pub mod Rising
 pub mod Fits

@@ -1,8 +1,11 @@
 -- Shares (docs/RULES.md, section 8): an amount A shared among coordinators by their running demands.
+use mathlib.Core.Bool.{false}
 use mathlib.Core.List.{List, [], _∷_, _++_}
+use mathlib.Core.Path.{_≡_}
 use Prim.Native.Nat.{ℕ, _+_}
 use lib.IntN.{ℤ, pos, _+ℤ_, _-ℤ_, _*ℤ_}
 use lib.ListN.{take, drop}
+use lib.Signed.{ltZ}
 use Rattle.exact.specs.Round.{roundDiv}
 use Rattle.exact.specs.Total.{total}
 
@@ -29,6 +32,11 @@ apart t amount charge d = pos t *ℤ charge -ℤ amount *ℤ pos d
 unfoldable pub sum : List ℤ → ℤ
 sum [] = pos 0
 sum (z ∷ zs) = z +ℤ sum zs
+
+-- b is not below 0 where a is not, and not above 0 where a is not
+pub record SameSign (a b : ℤ) : Type 0 where
+  pub not-below : ltZ a (pos 0) ≡ false → ltZ b (pos 0) ≡ false
+  pub not-above : ltZ (pos 0) a ≡ false → ltZ (pos 0) b ≡ false
 
 -- the n neighbours from place i on merged into one, by `add`
 abbrev pub mergedAt : {A : Type 0} → (List A → A) → ℕ → ℕ → List A → List A

@@ -343,6 +343,48 @@ fn withdraw_day(book: &mut [u8], date: u32) {
     show::end();
 }
 
+// The words of the basis that stand before the day file.
+fn basis_of(payload: &[u8], count: usize) -> [u32; 1024]
+    requires { ⌜ (count ≤ 1024) × (4 * count + 4 ≤ length (now payload)) ⌝ }
+    ensures { λ r. ⌜ 1024 ≡ length r ⌝ }
+{
+    let mut basis = [0u32; 1024];
+    let mut i: usize = 0;
+    while i < count {
+        basis[i] = words::word(payload, i + 1);
+        i += 1;
+    }
+    basis
+}
+
+fn pay_out_into(file: &[u8], basis: &[u32], payments: &mut [i64])
+    requires { ⌜ length (now payments) ≤ 8192 ⌝ }
+{
+    fill_lent(payments);
+    show_verdict(payout::pay_out(file, basis, payments));
+    show::numbers(payments);
+}
+
+fn pay_out(payload: &[u8], x: usize) -> bool {
+    if payload.len() < 4 {
+        return bad_case();
+    }
+    let count = words::word(payload, 0) as usize;
+    if 1024 < count {
+        return bad_case();
+    }
+    if payload.len() - 4 < 4 * count {
+        return bad_case();
+    }
+    if 8192 < x {
+        return bad_case();
+    }
+    let basis = basis_of(payload, count);
+    let mut room = statement_room();
+    pay_out_into(&payload[4 + 4 * count..], &basis[..count], &mut room[..x]);
+    true
+}
+
 fn call(number: u32, x: u32, payload: &mut [u8]) -> bool {
     if number == 1 {
         check(payload);
@@ -380,6 +422,9 @@ fn call(number: u32, x: u32, payload: &mut [u8]) -> bool {
     if number == 11 {
         withdraw_day(payload, x);
         return true;
+    }
+    if number == 12 {
+        return pay_out(payload, x as usize);
     }
     bad_case()
 }

@@ -5,7 +5,8 @@ use Rattle.verdict.specs.declared.Verdict.{Verdict}
 use Rattle.verdict.specs.declared.Verdict.the-variants.{Accepted, BadLength, BadEdition, BadAreaCount, BadDate, BadPeakHours, BadContents}
 use Rattle.verdict.specs.declared.Verdict.the-variants.{BadBodyHead, BadCoordinator, OutOfRange, RunningDemandTooLarge, PriceWithoutQuantity}
 use Rattle.verdict.specs.declared.Verdict.the-variants.{AmountWithoutDemand, RoomTooShort, BadRecord, AmountBeyondRange, TooFewIntervals}
-use Rattle.verdict.specs.declared.Verdict.the-variants.{DayNotAfter, TooManyAreas, BadBook, DaysDoNotFit, DateThereOrAbsent}
+use Rattle.verdict.specs.declared.Verdict.the-variants.{DayNotAfter, TooManyAreas, BadBook, DaysDoNotFit, DateThereOrAbsent, BadBasis}
+use Rattle.verdict.specs.declared.Verdict.the-variants.{PaymentRoomTooShort}
 use Rattle.verdict.specs.Verdict.{numberOf, placeOf}
 
 pub accepted-alone : (verdict : Verdict) → numberOf verdict ≡ 0 → verdict ≡ Accepted
@@ -31,6 +32,8 @@ accepted-alone TooManyAreas z = absurd (omega arith)
 accepted-alone (BadBook word) z = absurd (omega arith)
 accepted-alone DaysDoNotFit z = absurd (omega arith)
 accepted-alone DateThereOrAbsent z = absurd (omega arith)
+accepted-alone BadBasis z = absurd (omega arith)
+accepted-alone (PaymentRoomTooShort needed) z = absurd (omega arith)
 
 pub accepted-place : (verdict : Verdict) → numberOf verdict ≡ 0 → placeOf verdict ≡ 0
 accepted-place verdict z = ap placeOf (accepted-alone verdict z)

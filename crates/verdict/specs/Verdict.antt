@@ -4,7 +4,8 @@ use Rattle.verdict.specs.declared.Verdict.{Verdict}
 use Rattle.verdict.specs.declared.Verdict.the-variants.{Accepted, BadLength, BadEdition, BadAreaCount, BadDate, BadPeakHours, BadContents}
 use Rattle.verdict.specs.declared.Verdict.the-variants.{BadBodyHead, BadCoordinator, OutOfRange, RunningDemandTooLarge, PriceWithoutQuantity}
 use Rattle.verdict.specs.declared.Verdict.the-variants.{AmountWithoutDemand, RoomTooShort, BadRecord, AmountBeyondRange, TooFewIntervals}
-use Rattle.verdict.specs.declared.Verdict.the-variants.{DayNotAfter, TooManyAreas, BadBook, DaysDoNotFit, DateThereOrAbsent}
+use Rattle.verdict.specs.declared.Verdict.the-variants.{DayNotAfter, TooManyAreas, BadBook, DaysDoNotFit, DateThereOrAbsent, BadBasis}
+use Rattle.verdict.specs.declared.Verdict.the-variants.{PaymentRoomTooShort}
 
 abbrev pub numberOf : Verdict → ℕ
 numberOf Accepted = 0
@@ -29,6 +30,8 @@ numberOf TooManyAreas = 19
 numberOf (BadBook word) = 20
 numberOf DaysDoNotFit = 21
 numberOf DateThereOrAbsent = 22
+numberOf BadBasis = 23
+numberOf (PaymentRoomTooShort needed) = 24
 
 abbrev pub placeOf : Verdict → ℕ
 placeOf Accepted = 0
@@ -53,6 +56,8 @@ placeOf TooManyAreas = 0
 placeOf (BadBook word) = word
 placeOf DaysDoNotFit = 0
 placeOf DateThereOrAbsent = 0
+placeOf BadBasis = 0
+placeOf (PaymentRoomTooShort needed) = needed
 
 -- "number × 1,000,000 + place"
 unfoldable pub coded : Verdict → ℕ

@@ -27,6 +27,8 @@ pub enum Verdict {
     BadBook { word: usize },
     DaysDoNotFit,
     DateThereOrAbsent,
+    BadBasis,
+    PaymentRoomTooShort { needed: usize },
 }
 
 // The number of the refusal (docs/RULES.md, section 10); 0 where nothing is refused.
@@ -56,6 +58,8 @@ pub fn number(verdict: Verdict) -> u32
         Verdict::BadBook { word: _ } => 20,
         Verdict::DaysDoNotFit => 21,
         Verdict::DateThereOrAbsent => 22,
+        Verdict::BadBasis => 23,
+        Verdict::PaymentRoomTooShort { needed: _ } => 24,
     }
 }
 
@@ -86,6 +90,8 @@ pub fn place(verdict: Verdict) -> usize
         Verdict::BadBook { word } => word,
         Verdict::DaysDoNotFit => 0,
         Verdict::DateThereOrAbsent => 0,
+        Verdict::BadBasis => 0,
+        Verdict::PaymentRoomTooShort { needed } => needed,
     }
 }
 

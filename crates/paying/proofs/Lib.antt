@@ -1,0 +1,3 @@
+pub mod Columns
+pub mod Sizes
+pub mod Payments

@@ -1,0 +1,4 @@
+pub mod Areas
+pub mod Basis
+pub mod Rule
+pub mod Paid

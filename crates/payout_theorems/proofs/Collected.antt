@@ -23,7 +23,8 @@ use Rattle.payout.specs.PayOut.{collectedFrom, collectedAt, payOutRule}
 use Rattle.payout.proofs.Rule.{settling-accepted}
 use Rattle.payout_theorems.specs.PaidOut.{amountShown}
 
-module _ (file basis : List ℕ) (room : ℕ) (z : numberOf (payOutRule file basis room) ≡ 0) (statement : List ℤ) (fits : numbersNeeded file ≤ length statement) where
+module _ (file basis : List ℕ) (room : ℕ) (z : numberOf (payOutRule file basis room) ≡ 0) (statement : List ℤ)
+    (fits : numbersNeeded file ≤ length statement) where
   pub settled : numberOf (settleOf file (length statement)) ≡ 0
   unfolding acceptedRule
   settled =
@@ -34,7 +35,8 @@ module _ (file basis : List ℕ) (room : ℕ) (z : numberOf (payOutRule file bas
   abbrev left : List ℤ
   left = statementLeftBy ownDays file statement
 
-  pub amount-shown : (k h : ℕ) (direction : Direction) → k < areasOf file → h < dayHours → collectedFrom file k h direction ≡ amountShown file left k h direction
+  pub amount-shown : (k h : ℕ) (direction : Direction) → k < areasOf file → h < dayHours
+      → collectedFrom file k h direction ≡ amountShown file left k h direction
   unfolding amountIn
   amount-shown k h Upward area hour =
       sym (ap₂ _+ℤ_ (on-peak-shown ownDays file statement settled k h area hour) (off-peak-shown ownDays file statement settled k h area hour))

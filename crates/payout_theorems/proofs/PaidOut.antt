@@ -53,7 +53,8 @@ module _ (file basis : List ℕ) where
       ∙ shared-or-left (collectedAt file h direction) (passingBasis file basis h direction)
 
   -- both directions of an hour
-  hour-adds-up : (h : ℕ) → sum (each (λ k. bothOf (paymentAt file basis k) h) 0 n) +ℤ bothOf (restAt file basis) h ≡ sum (each (λ k. bothOf (collectedFrom file k) h) 0 n)
+  hour-adds-up : (h : ℕ) → sum (each (λ k. bothOf (paymentAt file basis k) h) 0 n) +ℤ bothOf (restAt file basis) h
+      ≡ sum (each (λ k. bothOf (collectedFrom file k) h) 0 n)
   unfolding collectedAt
   hour-adds-up h =
       ap (λ z. z +ℤ bothOf (restAt file basis) h) (sum-both (λ k. paymentAt file basis k h Upward) (λ k. paymentAt file basis k h Downward) 0 n)
@@ -94,7 +95,8 @@ module _ (file basis : List ℕ) (payments : List ℤ) (z : numberOf (payOutRule
       (λ h. onPeakShown file k h settled +ℤ offPeakShown file k h settled +ℤ downwardShown file k h settled) 0 dayHours
       (λ h q. ap₂ _+ℤ_ (shown k h Upward p q) (shown k h Downward p q)))))
     where
-      shown : (k h : ℕ) (direction : Direction) → k < 0 + areasOf file → h < 0 + dayHours → collectedFrom file k h direction ≡ amountShown file settled k h direction
+      shown : (k h : ℕ) (direction : Direction) → k < 0 + areasOf file → h < 0 + dayHours
+          → collectedFrom file k h direction ≡ amountShown file settled k h direction
       shown k h direction p q = amount-shown file basis (length payments) z statement fits k h direction (omega arith) (omega arith)
 
   pub paid-out : PaidOut file left settled

@@ -54,7 +54,8 @@ module _ (pass : ℕ → Bool) (basis : ℕ → ℕ) where
         shares-by (pass k) c (basis k) (among (suc k) n) (λ d. passingOnly pass (suc k) (sharesFrom amount t d (each counted (suc k) n)))
         (λ d. same-shares d (suc k) n)
 
-module _ (file basis : List ℕ) (lent : List ℤ) (z : numberOf (payOutRule file basis (length lent)) ≡ 0) (h : ℕ) (direction : Direction) (below : h < dayHours) where
+module _ (file basis : List ℕ) (lent : List ℤ) (z : numberOf (payOutRule file basis (length lent)) ≡ 0) (h : ℕ) (direction : Direction)
+    (below : h < dayHours) where
   abbrev pass : ℕ → Bool
   pass k = passes (bodyAt file k) h direction
 

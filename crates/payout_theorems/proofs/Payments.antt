@@ -64,7 +64,8 @@ module _ (file basis : List ℕ) (h : ℕ) (direction : Direction) where
   nobody-passes none =
       total-none (λ k. basisOf file basis k h direction) 0 (areasOf file) (λ k p. no-basis-of k (none k (omega arith)))
 
-module _ (file basis : List ℕ) (lent : List ℤ) (z : numberOf (payOutRule file basis (length lent)) ≡ 0) (h : ℕ) (direction : Direction) (below : h < dayHours) where
+module _ (file basis : List ℕ) (lent : List ℤ) (z : numberOf (payOutRule file basis (length lent)) ≡ 0) (h : ℕ) (direction : Direction)
+    (below : h < dayHours) where
   -- a payment is the share of its area
   is : (k : ℕ) → k < areasOf file
       → paymentShown file (paymentsLeft file basis lent) h direction k ≡ getD (shares (collectedAt file h direction) (passingBasis file basis h direction)) k (pos 0)

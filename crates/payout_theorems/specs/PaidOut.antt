@@ -53,7 +53,8 @@ module _ (file : List ℕ) (statement : List ℤ) where
 pub record PaidOut (file : List ℕ) (left statement : List ℤ) : Type 0 where
   -- in every hour and direction, to what the statement shows
   pub hour : (h : ℕ) (direction : Direction) → h < dayHours
-      → sum (paymentsShown file left h direction) +ℤ restShown file left h direction ≡ sum (each (λ k. amountShown file statement k h direction) 0 (areasOf file))
+      → sum (paymentsShown file left h direction) +ℤ restShown file left h direction
+      ≡ sum (each (λ k. amountShown file statement k h direction) 0 (areasOf file))
   -- over the day: all payments and rests, and all amounts
   pub day : sum (take (paymentsNeeded file) left) ≡ allAmounts file statement
 
@@ -61,7 +62,9 @@ pub record PaidOut (file : List ℕ) (left statement : List ℤ) : Type 0 where
 pub record Payments (file basis : List ℕ) (left : List ℤ) (h : ℕ) (direction : Direction) : Type 0 where
   -- less than a cent from its exact share: T × payment and collected × basis differ by less than T
   pub within-a-cent : (k : ℕ) → k < areasOf file → 0 < total (passingBasis file basis h direction)
-      → natAbs (apart (total (passingBasis file basis h direction)) (collectedAt file h direction) (paymentShown file left h direction k) (basisOf file basis k h direction))
+      → natAbs
+      (apart (total (passingBasis file basis h direction)) (collectedAt file h direction) (paymentShown file left h direction k)
+      (basisOf file basis k h direction))
       < total (passingBasis file basis h direction)
   -- "non-passing ones get 0"
   pub not-passing : (k : ℕ) → k < areasOf file → passes (bodyAt file k) h direction ≡ false → paymentShown file left h direction k ≡ pos 0

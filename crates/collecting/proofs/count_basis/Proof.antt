@@ -91,15 +91,17 @@ loop-again c =
     let l = i .before in
     let s = start l .args in
     let v = l .loop .inv in
-    let numbers = basisIn (now (s .body)) (now (s .basis)) in (
+    let body = now (s .body) in
+    let basis = now (s .basis) in (
       omega arith,
       c .next-hour .ensures,
       v .2,
       v .3,
       v .4,
-      hour-stored numbers (l .loop .h) dayHours _ _ (v .5) (i .loop-test .taken) (omega (arith, room i))
-          (counts (now (s .body)) (now (s .basis)) (l .loop .h) Upward (v .4) (down .before .upward .ensures ∙ ap (upwardFrom (now (s .body))) (here l)) (first .where-passed .ensures))
-          (counts (now (s .body)) (now (s .basis)) (l .loop .h) Downward (v .4) (down .downward-quantity .ensures ∙ ap (downwardFrom (now (s .body))) (here l)) (second .where-passed2 .ensures)),
+      hour-stored (basisIn body basis) (l .loop .h) dayHours _ _ (v .5) (i .loop-test .taken) (omega (arith, room i))
+          (counts body basis (l .loop .h) Upward (v .4) (down .before .upward .ensures ∙ ap (upwardFrom body) (here l)) (first .where-passed .ensures))
+          (counts body basis (l .loop .h) Downward (v .4) (down .downward-quantity .ensures ∙ ap (downwardFrom body) (here l))
+          (second .where-passed2 .ensures)),
     )
 
 same-length : tie.Need-same-length Inv-loop μ-loop

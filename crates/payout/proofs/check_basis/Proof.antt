@@ -64,5 +64,5 @@ returns-3 c =
 
 pub check-basis-spec : {M : Type 1} → statement M
 check-basis-spec =
-    tie.close (tie.spec Inv-loop μ-loop (λ c. omega (arith, c .before .pre)) returns loop-holds (λ c. search needs) hour-basis-requires returns-2 (λ c. search needs) (λ c. search needs)
-    loop-again returns-3)
+    tie.close (tie.spec Inv-loop μ-loop (λ c. omega (arith, c .before .pre)) returns loop-holds (λ c. search needs) hour-basis-requires returns-2
+    (λ c. search needs) (λ c. search needs) loop-again returns-3)

@@ -83,5 +83,7 @@ returns c =
 
 pub count-bases-spec : {M : Type 1} → statement M
 count-bases-spec =
-    tie.close (tie.spec Inv-loop μ-loop loop-holds body-at-requires (λ c. omega (arith, own (c .before))) (λ c. omega (arith, room (c .before))) (λ c. omega (arith, own (c .before))) (λ c. omega (arith, own (c .before))) (λ c. omega (arith, own (c .before))) (λ c. search needs) (λ c. omega (arith, room (c .before .before))) (λ c. omega (arith, room (c .before .before))) (λ c. omega (arith, room (c .before .before)))
+    tie.close (tie.spec Inv-loop μ-loop loop-holds body-at-requires (λ c. omega (arith, own (c .before))) (λ c. omega (arith, room (c .before)))
+    (λ c. omega (arith, own (c .before))) (λ c. omega (arith, own (c .before))) (λ c. omega (arith, own (c .before))) (λ c. search needs)
+    (λ c. omega (arith, room (c .before .before))) (λ c. omega (arith, room (c .before .before))) (λ c. omega (arith, room (c .before .before)))
     (λ c. search needs) count-basis-requires (λ c. search needs) (λ c. search needs) loop-again same-length returns)

@@ -1,22 +1,22 @@
 -- The rule of the basis (23): by what each hour adds up to alone, and what an acceptance says.
-use Prim.Native.Nat.{ℕ, zero, suc, _+_, _*_, _-_, _≤_, _<_, zero-le}
+use Prim.Native.Nat.{ℕ, zero, suc, _*_, _-_, _≤_, _<_, zero-le}
 use mathlib.Core.Bool.{Bool, true, false, cond}
 use mathlib.Core.List.{List, [], _∷_}
 use mathlib.Core.Path.{_≡_, refl}
 use native.Mathlib.Omega.{arith}
 use borrow.Author.Tests.{leb-true, eqb-true, le-leb, lt-leb}
 use lib.Dec.{leb, eqb}
-use lib.ListN.{length, getD, drop}
-use lib.Seq.{getD-drop}
+use lib.ListN.{length}
 use Rattle.exact.specs.Total.{total}
 use Rattle.limits.specs.Ranges.{dayHours, mostBasis}
 use Rattle.verdict.specs.declared.Verdict.the-variants.{Accepted, BadBasis}
 use Rattle.verdict.specs.Verdict.{numberOf}
 use Rattle.verdict.specs.First.{rule_else_then_, scan}
 use Rattle.verdict.proofs.First.{kept, scan-each}
-use Rattle.collecting.specs.Directions.{Direction, passes, basisIn}
+use Rattle.contents.specs.File.{bodyAt}
+use Rattle.collecting.specs.Directions.{Direction, passes}
 use Rattle.paying.specs.Columns.{each}
-use Rattle.payout.specs.PayOut.{allWithin, basisAt, hourBasisRule, basisRule}
+use Rattle.payout.specs.PayOut.{allWithin, basisNumber, basisAt, hourBasisRule, basisRule, basisOf}
 
 -- what adds up to at most m has no larger number in it
 within-total : (m : ℕ) (numbers : List ℕ) → total numbers ≤ m → allWithin m numbers ≡ true
@@ -64,9 +64,8 @@ where-counted : (t : Bool) (m : ℕ) → cond t m 0 ≤ m
 where-counted true m = omega arith
 where-counted false m = zero-le
 
-pub passing-small : (bodies : ℕ → List ℕ) (basis : List ℕ) (n h : ℕ) (direction : Direction)
-    → total (each (λ k. basisIn (bodies k) (drop (dayHours * k) basis) h direction) 0 n) ≤ total (basisAt basis n h)
-unfolding basisIn
-passing-small bodies basis n h direction =
-    total-less (λ k. basisIn (bodies k) (drop (dayHours * k) basis) h direction) (λ k. getD basis (dayHours * k + h) 0) 0 n
-    (λ k. omega (arith, where-counted (passes (bodies k) h direction) (getD (drop (dayHours * k) basis) h 0), getD-drop (dayHours * k) basis h 0))
+pub passing-small : (file basis : List ℕ) (n h : ℕ) (direction : Direction)
+    → total (each (λ k. basisOf file basis k h direction) 0 n) ≤ total (basisAt basis n h)
+passing-small file basis n h direction =
+    total-less (λ k. basisOf file basis k h direction) (λ k. basisNumber basis k h) 0 n
+    (λ k. where-counted (passes (bodyAt file k) h direction) (basisNumber basis k h))

@@ -112,7 +112,7 @@ module _ (file basis : List ℕ) (behind : List ℤ) (none : List ℕ) where
 
     basis-small : (h : ℕ) (direction : Direction) → h < dayHours → total (passingBasis file basis h direction) ≤ mostBasis
     unfolding passingBasis
-    basis-small h direction below = omega (arith, small h below, passing-small (bodyAt file) basis n h direction)
+    basis-small h direction below = omega (arith, small h below, passing-small file basis n h direction)
 
     pub table-kept : (j : ℕ) → j < dayPayments → TableKept bases n j table
     table-kept j below =

@@ -15,7 +15,7 @@ use Rattle.contents.specs.File.{areasOf, bodyAt}
 use Rattle.dayfile.specs.Check.{checkOf}
 use Rattle.shares.specs.Shares.{shares, sum}
 use Rattle.settlement.specs.Settlement.{termsBy, daysBy, ownDays, areasRefusal}
-use Rattle.collecting.specs.Directions.{Direction, amountIn, basisIn, dayOf}
+use Rattle.collecting.specs.Directions.{Direction, amountIn, passes, dayOf}
 use Rattle.paying.specs.Paid.{restOf}
 use Rattle.paying.specs.Columns.{each}
 
@@ -32,9 +32,13 @@ allWithin m [] = true
 allWithin m (number ∷ numbers) = leb number m && allWithin m numbers
 
 module _ (basis : List ℕ) where
-  -- "a basis for each area and hour, areas in file order": that of hour h for each of n areas, passing or not
+  -- "a basis for each area and hour, areas in file order"
+  abbrev pub basisNumber : (k h : ℕ) → ℕ
+  basisNumber k h = getD basis (dayHours * k + h) 0
+
+  -- that of hour h for each of n areas, passing or not
   abbrev pub basisAt : (n h : ℕ) → List ℕ
-  basisAt n h = each (λ k. getD basis (dayHours * k + h) 0) 0 n
+  basisAt n h = each (λ k. basisNumber k h) 0 n
 
   -- "0 to 10,000,000, summing to at most that per hour"
   unfoldable pub hourBasisRule : (n h : ℕ) → Verdict
@@ -63,9 +67,9 @@ module _ (file : List ℕ) where
   paymentsNeeded = dayPayments * (areasOf file + 1)
 
 module _ (file basis : List ℕ) where
-  -- the basis of area k, 0 where it does not pass: its 24 numbers stand behind those of the areas before it
+  -- the basis of area k, 0 where it does not pass
   abbrev pub basisOf : ℕ → ℕ → Direction → ℕ
-  basisOf k = basisIn (bodyAt file k) (drop (dayHours * k) basis)
+  basisOf k h direction = cond (passes (bodyAt file k) h direction) (basisNumber basis k h) 0
 
   -- that of each area "in file order"
   unfoldable pub passingBasis : ℕ → Direction → List ℕ

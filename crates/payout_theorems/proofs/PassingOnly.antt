@@ -1,22 +1,20 @@
 -- The payments of the areas that pass are the shares of what was collected by the basis of these areas alone: who does not pass has no part in the running
 -- totals.
-use Prim.Native.Nat.{ℕ, zero, suc, _+_, _*_, _<_}
+use Prim.Native.Nat.{ℕ, zero, suc, _+_, _<_}
 use mathlib.Core.Bool.{Bool, true, false, cond}
 use mathlib.Core.List.{List, _∷_}
 use mathlib.Core.Path.{_≡_, refl, sym, ap, _∙_}
 use native.Mathlib.Nat.{add-zero, zero-add}
 use lib.IntN.{ℤ, _-ℤ_}
-use lib.ListN.{length, getD}
-use lib.Seq.{getD-drop}
+use lib.ListN.{length}
 use Rattle.exact.specs.Total.{total}
 use Rattle.limits.specs.Ranges.{dayHours}
 use Rattle.verdict.specs.Verdict.{numberOf}
 use Rattle.contents.specs.File.{areasOf, bodyAt}
 use Rattle.shares.specs.Shares.{upTo, sharesFrom, shares}
-use Rattle.collecting.specs.Directions.{Direction, passes, basisIn}
+use Rattle.collecting.specs.Directions.{Direction, passes}
 use Rattle.paying.specs.Columns.{each}
-use Rattle.paying.proofs.Columns.{each-same}
-use Rattle.payout.specs.PayOut.{basisAt, collectedAt, basisOf, passingBasis, payOutRule}
+use Rattle.payout.specs.PayOut.{basisNumber, basisAt, collectedAt, passingBasis, payOutRule}
 use Rattle.payout_theorems.specs.PaidOut.{paymentsLeft, paymentsShown, passingOnly}
 use Rattle.payout_theorems.proofs.Shown.{shown-shares}
 
@@ -60,13 +58,11 @@ module _ (file basis : List ℕ) (lent : List ℤ) (z : numberOf (payOutRule fil
   pass k = passes (bodyAt file k) h direction
 
   abbrev own : ℕ → ℕ
-  own k = getD basis (dayHours * k + h) 0
+  own k = basisNumber basis k h
 
   counted-is : passingBasis file basis h direction ≡ each (counted pass own) 0 (areasOf file)
-  unfolding passingBasis basisIn counted
-  counted-is =
-      each-same (λ k. basisOf file basis k h direction) (counted pass own) 0 (areasOf file)
-      (λ k _. ap (λ b. cond (pass k) b 0) (getD-drop (dayHours * k) basis h 0))
+  unfolding passingBasis counted
+  counted-is = refl
 
   pub passing-only : shares (collectedAt file h direction) (passingOnly pass 0 (basisAt basis (areasOf file) h))
       ≡ passingOnly pass 0 (paymentsShown file (paymentsLeft file basis lent) h direction)

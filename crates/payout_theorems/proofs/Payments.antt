@@ -18,7 +18,7 @@ use Rattle.shares.proofs.NoDemand.{no-demand}
 use Rattle.shares.proofs.Sign.{same-sign}
 use Rattle.shares.proofs.Turned as T
 use Rattle.shares.proofs.Merged as M
-use Rattle.collecting.specs.Directions.{Direction, passes, basisIn}
+use Rattle.collecting.specs.Directions.{Direction, passes}
 use Rattle.paying.specs.Paid.{restOf}
 use Rattle.paying.specs.Columns.{each}
 use Rattle.paying.proofs.Columns.{each-length, each-there}
@@ -48,7 +48,6 @@ module _ (file basis : List ℕ) (h : ℕ) (direction : Direction) where
   passing-length = each-length (λ i. basisOf file basis i h direction) 0 (areasOf file)
 
   no-basis-of : (k : ℕ) → passes (bodyAt file k) h direction ≡ false → basisOf file basis k h direction ≡ 0
-  unfolding basisIn
   no-basis-of k e = rw e
 
   all-left : total passing ≡ 0 → restAt file basis h direction ≡ collected

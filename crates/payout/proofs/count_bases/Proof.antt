@@ -1,16 +1,17 @@
 use borrow.Author.Needs.{needs}
 use denote.Ref.{now}
 use Prim.Native.Nat.{ℕ, _+_, _*_, _-_, _≤_, _<_}
+use mathlib.Core.Bool.{cond}
 use mathlib.Core.List.{List, _++_}
 use mathlib.Core.Path.{_≡_, refl, ap, _∙_}
 use native.Mathlib.Nat.{le-refl}
 use native.Mathlib.Omega.{arith}
 use lib.ListN.{length, take, drop, length-take, length-drop}
-use lib.Seq.{take-all}
+use lib.Seq.{take-all, getD-drop}
 use Rattle.limits.specs.Ranges.{dayHours, dayPayments}
 use Rattle.contents.specs.File.{areasOf, bodyAt}
 use Rattle.settlement.proofs.Areas.{placed}
-use Rattle.collecting.specs.Directions.{basisIn, dayOf}
+use Rattle.collecting.specs.Directions.{passes, basisIn, dayOf}
 use Rattle.payout.specs.PayOut.{areasTo, basisOf}
 use Rattle.payout.proofs.Areas.{areas-step}
 use Rattle.payout.proofs.count_bases.Statement.{statement}
@@ -19,9 +20,11 @@ use Rattle.payout.proofs.count_bases.Tie as tie
 -- the basis of area k is what stands from its first number on
 counted-there : (file basis : List ℕ) (k : ℕ) (body : List ℕ) → body ≡ bodyAt file k
     → basisIn body (take (length basis - dayHours * k) (drop (dayHours * k) basis)) ≡ basisOf file basis k
+unfolding basisIn
 counted-there file basis k body e =
     let from = dayHours * k in
     rw (e, take-all (length basis - from) (drop from basis) (rw length-drop (le-refl _)))
+    (λ i h direction. cond (passes (bodyAt file k) h direction) (getD-drop from basis h 0 i) 0)
 
 abbrev Inv-loop : tie.InvT-loop
 Inv-loop file basis n counted₀ k₀ counted k =

@@ -106,7 +106,7 @@ fn highest_hour(terms: Terms, body: &[u8]) -> Hour
     }
 }
 
-fn hub_price(body: &[u8]) -> HubPrice
+pub fn hub_price(body: &[u8]) -> HubPrice
     requires { ⌜ 20 ≤ length (now body) ⌝ }
     ensures { λ r. ⌜ r .0 ≡ hubPrice (now (body .entry)) ⌝ }
 {
@@ -126,7 +126,7 @@ pub fn day_facts(terms: Terms, body: &[u8]) -> Day
 }
 
 // The price of an hour's interval pairs, which start at word `from`: that part of the body, uncopied.
-fn hour_price(body: &[u8], load: usize, from: usize) -> PriceAnswer
+pub fn hour_price(body: &[u8], load: usize, from: usize) -> PriceAnswer
     requires { ⌜ PairsRanged (now body) load from ⌝ }
     ensures { λ r. ⌜ r ≡ priceFrom (now (body .entry)) from ⌝ }
 {

@@ -3,27 +3,9 @@
 use libc::STDERR_FILENO;
 use libc::STDIN_FILENO;
 use verdict::Verdict;
-ghost use mathlib.Core.Path.{_≡_};
-ghost use Prim.Native.Nat.{_+_, _≤_};
-ghost use lib.ListN.{length};
+ghost use Prim.Native.Nat.{_≤_};
 ghost use Rattle.limits.specs.Ranges.{mostCoordinators};
-ghost use Rattle.limits.specs.Editions.{mostBytes, mostAreas};
-ghost use Rattle.settlement.specs.Settlement.{mostNumbers};
-
-// A byte more than the longest file that is not refused for its length, so that a longer one is seen to be longer.
-const FILE_ROOM: usize = limits::MOST_BYTES + 1;
-
-fn file_room() -> [u8; FILE_ROOM]
-    ensures { λ r. ⌜ mostBytes + 1 ≡ length r ⌝ }
-{
-    [0; FILE_ROOM]
-}
-
-fn statement_room() -> [i64; settlement::MOST_NUMBERS]
-    ensures { λ r. ⌜ mostNumbers ≡ length r ⌝ }
-{
-    [0; settlement::MOST_NUMBERS]
-}
+ghost use Rattle.limits.specs.Editions.{mostAreas};
 
 // Word i of some bytes. An accepted file is not asked for a word past its end.
 fn word(bytes: &[u8], i: usize) -> u32 {
@@ -31,22 +13,6 @@ fn word(bytes: &[u8], i: usize) -> u32 {
         return 0;
     }
     words::word(bytes, i)
-}
-
-// Number i of a statement. A settled statement is not asked for a number past its end.
-fn number(statement: &[i64], i: usize) -> i64 {
-    if statement.len() <= i {
-        return 0;
-    }
-    statement[i]
-}
-
-// The statement from a number on.
-fn part(statement: &[i64], from: usize) -> &[i64] {
-    if statement.len() < from {
-        return &statement[..0];
-    }
-    &statement[from..]
 }
 
 // A word that says how many there are. An accepted file says no more than `most`.
@@ -64,17 +30,6 @@ fn coordinators(body: &[u8]) -> usize
     ensures { λ r. ⌜ r ≤ mostCoordinators ⌝ }
 {
     count(word(body, 6), limits::MOST_COORDINATORS as u32)
-}
-
-// A charge is within limits::MOST_AMOUNT, and a statement has at most settlement::MOST_NUMBERS: the sum does not come near the bound.
-fn sum(total: i64, charge: i64) -> i64 {
-    if 1000000000000000000 < exact::absolute(total) {
-        return total;
-    }
-    if 1000000000000000000 < exact::absolute(charge) {
-        return total;
-    }
-    total + charge
 }
 
 // What is printed: whether all of it was written, and the sum of its charges.
@@ -121,7 +76,7 @@ fn with_charge(before: Printed, area: u32, coordinator: u32, hour: usize, charge
     let written = show_charge(area, coordinator, hour, charge);
     Printed {
         written: before.written & written,
-        total: sum(before.total, charge),
+        total: reading::sum(before.total, charge),
     }
 }
 
@@ -131,7 +86,7 @@ fn with_hour(before: Printed, area: u32, body: &[u8], hour: usize, charges: &[i6
     let mut i: usize = 0;
     while i < n {
         let coordinator = word(body, 7 + i);
-        let charge = number(charges, i);
+        let charge = reading::number(charges, i);
         printed = with_charge(printed, area, coordinator, hour, charge);
         i += 1;
     }
@@ -145,7 +100,7 @@ fn with_area(before: Printed, area: u32, body: &[u8], block: &[i64]) -> Printed 
     let mut at: usize = statement::AMOUNTS_SHOWN;
     let mut hour: usize = 1;
     while hour <= limits::DAY_HOURS {
-        printed = with_hour(printed, area, body, hour, part(block, at));
+        printed = with_hour(printed, area, body, hour, reading::part(block, at));
         at += statement::hour_numbers(n);
         hour += 1;
     }
@@ -175,7 +130,7 @@ fn show_charges(file: &[u8], statement: &[i64]) -> Printed {
     while k < n {
         let area = word(file, 4 + 3 * k);
         let body = body_at(file, k);
-        printed = with_area(printed, area, body, part(statement, at));
+        printed = with_area(printed, area, body, reading::part(statement, at));
         at += statement::area_numbers(coordinators(body));
         k += 1;
     }
@@ -190,7 +145,7 @@ fn show_statement(file: &[u8], statement: &[i64]) -> bool {
 
 // Whether all that there is to print was written.
 fn settle(file: &[u8]) -> bool {
-    let mut statement = statement_room();
+    let mut statement = reading::statement_room();
     let answer = settlement::settle(file, &mut statement);
     if verdict::number(answer) != 0 {
         return show_refusal(answer);
@@ -200,7 +155,7 @@ fn settle(file: &[u8]) -> bool {
 
 // A program has no exit status, so what could not be written is said on standard error.
 fn main() {
-    let mut room = file_room();
+    let mut room = reading::file_room();
     let got = io::read_full(STDIN_FILENO, &mut room);
     if !settle(&room[..got]) {
         io::write_all(

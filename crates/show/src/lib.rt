@@ -41,3 +41,29 @@ pub fn numbers(numbers: &[i64]) {
     }
     end();
 }
+
+// ---- lines of fields, a tab before each but the first
+
+pub fn field(bytes: &[u8]) -> bool {
+    text(b"\t") & text(bytes)
+}
+
+pub fn number_field(z: i64) -> bool {
+    text(b"\t") & signed(z)
+}
+
+pub fn signed_word_field(z: i32) -> bool {
+    text(b"\t") & signed_word(z)
+}
+
+// A yes is 1 and a no is 0.
+pub fn yes_field(yes: bool) -> bool {
+    if yes {
+        return number_field(1);
+    }
+    number_field(0)
+}
+
+pub fn count_field(n: usize) -> bool {
+    text(b"\t") & unsigned(n as u64)
+}

@@ -73,7 +73,7 @@ pub fn peak_hour(terms: Terms, h: usize) -> bool
 }
 
 // m in quarters.
-fn quarters_of(tier: u32) -> u32
+pub fn quarters_of(tier: u32) -> u32
     ensures { λ r. ⌜ r ≡ quarters tier ⌝ }
 {
     if tier == 2 {

@@ -4,8 +4,8 @@ use mir.Syntax.{w64}
 use mir.ValLaws.{toZ-ofZ}
 use Rattle.exact.proofs.Magnitude.{abs-add}
 use Rattle.exact.proofs.Machine.{within}
-use Rattle.settle8080.proofs.sum.Statement.{statement}
-use Rattle.settle8080.proofs.sum.Tie as tie
+use Rattle.reading.proofs.sum.Statement.{statement}
+use Rattle.reading.proofs.sum.Tie as tie
 
 add-result : tie.Need-add-result
 add-result c =

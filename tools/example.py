@@ -2,8 +2,9 @@
 """The example day: a warm working day of eight areas, one of them CISO with twelve coordinators.
 
 Every number comes from the tables here, in whole numbers, so that the day is the same on every
-machine. `make` writes examples/example.day and examples/example.out, what the program prints for it
-by reference.py; `check` exits 1 if one of them differs from what `make` would write.
+machine. `make` writes examples/example.day, what settle8080 prints for it by reference.py to
+examples/example.out, and what explain8080 prints for it by explanation.py to
+examples/example.explained; `check` exits 1 if one of them differs from what `make` would write.
 """
 
 import sys
@@ -13,11 +14,13 @@ sys.dont_write_bytecode = True  # running a tool leaves nothing behind in the re
 
 import arguments
 import days
+import explanation
 import reference
 
 ROOT = Path(__file__).resolve().parent.parent
 DAY = ROOT / "examples" / "example.day"
 PRINTED = ROOT / "examples" / "example.out"
+EXPLAINED = ROOT / "examples" / "example.explained"
 
 TRADING_DAY = 20260714
 
@@ -171,20 +174,24 @@ def area_of(number, highest, persistent_days, hubs, load_points, coordinator):
 
 
 def made():
-    """The day file, and what the program prints for it."""
+    """The day file, and what each program prints for it."""
     areas = [area_of(*area) for area in AREAS]
     file_bytes = days.Day(TRADING_DAY, days.PEAK_WORD, areas).to_bytes()
-    return file_bytes, reference.program(file_bytes).encode("ascii")
+    return (
+        file_bytes,
+        reference.program(file_bytes).encode("ascii"),
+        explanation.explained(file_bytes).encode("ascii"),
+    )
 
 
 def make():
     DAY.parent.mkdir(exist_ok=True)
-    for path, due in zip((DAY, PRINTED), made()):
+    for path, due in zip((DAY, PRINTED, EXPLAINED), made()):
         path.write_bytes(due)
 
 
 def check():
-    for path, due in zip((DAY, PRINTED), made()):
+    for path, due in zip((DAY, PRINTED, EXPLAINED), made()):
         name = path.relative_to(ROOT).as_posix()
         if not path.exists():
             sys.exit("%s is missing; tools/example.py make writes it." % name)

@@ -1,7 +1,7 @@
 // Where a word of a day file stands: which area and hour it belongs to, and which number it is. So the place of a refusal is told.
 ghost use mathlib.Core.Path.{_≡_};
 ghost use mathlib.Core.Bool.{_&&_};
-ghost use Prim.Native.Nat.{_+_, _<_, _≤_};
+ghost use Prim.Native.Nat.{_+_, _/_, _<_, _≤_};
 ghost use lib.Dec.{leb, ltb};
 ghost use Rattle.locating.specs.Locating.{wordWithin, startWithin, headField, entryField, bodyField, numberField, intervalField, hourField, holderFrom, inBody};
 ghost use Rattle.locating.specs.Locating.{placeOf};
@@ -164,6 +164,15 @@ fn hour_field(load: usize, word: usize) -> Field
     }
 }
 
+// The hour ending of the word `behind` words behind the first hour's first, with so many words in an hour.
+fn hour_ending(behind: usize, size: usize) -> usize
+    requires { ⌜ 2 ≤ size ⌝ }
+    ensures { λ r. ⌜ r ≡ behind / size + 1 ⌝ }
+{
+    let before = behind / size;
+    before + 1
+}
+
 // Word `word` of the body of entry k, counted from its own start, with so many load points and coordinators.
 fn in_body(k: usize, load: usize, count: usize, word: usize) -> Place
     requires { ⌜ (k < 4294967296) × ((load < 4294967296) × (count < 4294967296)) ⌝ }
@@ -188,7 +197,7 @@ fn in_body(k: usize, load: usize, count: usize, word: usize) -> Place
     let behind = number - count;
     Place {
         entry: k + 1,
-        hour: behind / size + 1,
+        hour: hour_ending(behind, size),
         field: hour_field(load, behind % size),
     }
 }

@@ -1,0 +1,2 @@
+pub mod InBody
+pub mod Found

@@ -18,12 +18,14 @@ import io
 import re
 import sys
 from collections import namedtuple
+from itertools import zip_longest
 
 sys.dont_write_bytecode = True  # running a tool leaves nothing behind in the repository
 
 import days
 import explanation
 import reference
+import report_words
 
 # The faults that are told of a table.
 MOST_FAULTS = 20
@@ -32,6 +34,9 @@ MOST_FAULTS = 20
 MOST_REPEATED = 40
 
 COUNTS = {2: "two", 3: "three", 4: "four"}
+
+# What names several rows.
+PLURALS = {"hour ending": "hours ending", "interval": "intervals", "coordinator": "coordinators"}
 
 
 class Faulty(Exception):
@@ -81,16 +86,26 @@ class Measure:
         if sign:
             word = -word
         if not self.low <= word <= self.high:
-            raise ValueError("the %s %s is not %s" % (self.name, repeated(text), self.range()))
+            raise ValueError(self.out_of_range(text, word))
         return word
 
     def no_number(self, text):
-        what = "the %s %s is no number" % (self.name, repeated(text))
+        what = "the %s '%s' is no number" % (self.name, repeated(text))
         if "," in text:
             return what + ": it has a comma; only a point before the decimals is taken"
+        what += " written like %s" % self.text_of(min(self.high, 12 * 10**self.decimals))
         if self.may_be_missing:
-            return what + "; a price that is missing is an empty field"
-        return what + " written like %s" % self.text_of(min(self.high, 12 * 10**self.decimals))
+            # A price that somebody knows must not be taken out because of how it is written.
+            what += "; only a price that is not known is left empty"
+        return what
+
+    def out_of_range(self, text, word):
+        what = "the %s %s is not %s" % (self.name, repeated(text), self.range())
+        # The word of a missing price, taken to dollars or as it stands in the file.
+        missing = (reference.MISSING, reference.MISSING * 10**self.decimals)
+        if self.may_be_missing and word in missing:
+            what += "; a price that is missing is an empty field"
+        return what
 
     def too_fine(self):
         if self.decimals == 0:
@@ -277,8 +292,8 @@ Row = namedtuple("Row", "line words")
 
 
 def file_of(tables):
-    """The day file that the tables make, each given as bytes by its name; raises Faulty with the faults
-    of the first table that has one."""
+    """The day file that the tables make, each given as bytes by its name; raises Faulty with the
+    faults of the first table that has one."""
     day = day_of(read(DAY, tables))
     areas = areas_of(read(AREAS, tables))
     coordinators = coordinators_of(read(COORDINATORS, tables), areas)
@@ -323,10 +338,12 @@ def said(table, line, what):
 
 
 def stop_at(table, faults):
-    """Ends the reading where there are faults: (line, what is wrong), told in the order of lines."""
+    """Ends the reading where there are faults: (line, what is wrong), told in the order of lines.
+    Those of no line come last: a row that is absent often follows from a line that is wrong."""
     if not faults:
         return
-    told = [said(table, line, what) for line, what in sorted(faults, key=lambda fault: fault[0])]
+    in_order = sorted(faults, key=lambda fault: (fault[0] == 0, fault[0]))
+    told = [said(table, line, what) for line, what in in_order]
     if len(told) > MOST_FAULTS:
         more = "%s: and %d faults more" % (table.name, len(told) - MOST_FAULTS)
         told = told[:MOST_FAULTS] + [more]
@@ -335,8 +352,16 @@ def stop_at(table, faults):
 
 def named(table, key):
     """A row by its keys, as in: area 7, hour ending 3."""
-    names = ["%s %d" % (column.name, word) for column, word in zip(table.columns, key)]
-    return ", ".join(names) if names else "the day"
+    return rows_named(table, [(word,) for word in key]) if key else "the day"
+
+
+def rows_named(table, numbers):
+    """Rows by the numbers of each key, as in: area 7, hours ending 1 to 24, intervals 3 and 5."""
+    names = []
+    for column, of_column in zip(table.columns, numbers):
+        name = column.name if len(of_column) == 1 else PLURALS[column.name]
+        names.append("%s %s" % (name, report_words.listed_runs(of_column)))
+    return ", ".join(names)
 
 
 # A table: its text, its rows, the words of a row
@@ -373,17 +398,56 @@ def text_of(table, table_bytes):
 def lines_of(table, table_bytes):
     """The lines behind the header, each with its number; lines with nothing in any field are left
     out, as a spreadsheet may leave some at the end."""
-    reader = csv.reader(io.StringIO(text_of(table, table_bytes), newline=""), strict=True)
-    lines = []
+    header, *lines = fields_of(table, text_of(table, table_bytes)) or [(1, [])]
+    stop_at(table, [(1, what) for what in header_faults(table, header[1])])
+    return [(line, fields) for line, fields in lines if any(fields)]
+
+
+def fields_of(table, text):
+    """The fields of each line, with its number: the first of those over which its fields go on."""
+    lines = list(io.StringIO(text, newline=""))
+    reader = csv.reader(lines, strict=True)
+    found, first = [], 1
     try:
         for fields in reader:
-            lines.append((reader.line_num, [field.strip() for field in fields]))
+            found.append((first, [field.strip() for field in fields]))
+            first = reader.line_num + 1
     except csv.Error as error:
-        raise Faulty([said(table, reader.line_num, "this is no line of fields: %s" % error)])
+        raise Faulty([said(table, first, no_fields(lines[first - 1], error))])
+    return found
+
+
+def no_fields(line, error):
+    """What is wrong with a line where reading ended, perhaps at a later one or at the end."""
+    if line.count('"') % 2 == 1:
+        return "a quotation mark is not closed"
+    return "this is no line of fields: %s" % error
+
+
+def header_faults(table, header):
+    """Each column that has another name; where one is absent or too many, the first alone, since all
+    behind it are moved."""
     due = [column.header for column in table.columns]
-    if not lines or lines[0][1] != due:
-        raise Faulty([said(table, 1, "the header is not: %s" % ",".join(due))])
-    return [(line, fields) for line, fields in lines[1:] if any(fields)]
+    if not any(header):
+        return ["the header is not there; it must be: %s" % ",".join(due)]
+    if len(header) == 1:
+        return ["one column where %d are due: are the separators commas?" % len(due)]
+    faults = [
+        column_fault(place, name, name_due)
+        for place, (name, name_due) in enumerate(zip_longest(header, due), 1)
+        if name != name_due
+    ]
+    if len(header) == len(due):
+        return faults
+    return ["%d columns where %d are due: %s" % (len(header), len(due), faults[0])]
+
+
+def column_fault(place, name, name_due):
+    """Of a column that is not there, or of one that is not due, the name is None."""
+    if name is None:
+        return "column %d is not there, and must be '%s'" % (place, name_due)
+    must = "not be there" if name_due is None else "be '%s'" % name_due
+    return "column %d is '%s', and must %s" % (place, repeated(name), must)
 
 
 def words_of_line(table, fields):
@@ -450,12 +514,48 @@ def too_many_coordinators(number, most):
     return "a coordinator of area %d beyond the %d that it can have" % (number, most)
 
 
-def hold_to(table, rows, due, why_not):
-    """Faults of a table that has a row too many, which why_not explains by its keys, or lacks one."""
+def nothing_more(*_):
+    return ""
+
+
+def hold_to(table, rows, due, why_not, why_due=nothing_more):
+    """Faults of a table that has rows too many or lacks some. why_not says of a row, by its keys, why
+    it is not due; why_due may say of rows that are absent, by area and third keys, why they are."""
     due_keys = set(due)
-    faults = [(row.line, why_not(*key)) for key, row in rows.items() if key not in due_keys]
-    faults += [(0, "no row for %s" % named(table, key)) for key in due if key not in rows]
-    stop_at(table, faults)
+    surplus = {key: row for key, row in rows.items() if key not in due_keys}
+    absent = [key for key in due if key not in rows]
+    stop_at(table, surplus_faults(surplus, why_not) + absent_faults(table, absent, why_due))
+
+
+def surplus_faults(surplus, why_not):
+    """Rows that are not due for the same reason are told at the first: they have one cause."""
+    lines = {}
+    for key, row in surplus.items():
+        lines.setdefault(why_not(*key), []).append(row.line)
+    return [(first, why + the_same_in(len(more))) for why, (first, *more) in lines.items()]
+
+
+def the_same_in(count):
+    return "; the same in %s more" % report_words.counted(count, "line") if count else ""
+
+
+def absent_faults(table, absent, why_due):
+    """The hours of an area that lack the same rows are told together."""
+    hours = {}
+    for (number, ending), lacking in grouped(absent, lambda key: key[2:]).items():
+        hours.setdefault((number, tuple(lacking)), []).append(ending)
+    faults = []
+    for (number, lacking), its_endings in hours.items():
+        # The numbers of the third key; of hours.csv, which has two keys, there are none.
+        third = list(zip(*lacking))
+        what = no_rows(table, [(number,), its_endings, *third])
+        faults.append((0, what + why_due(number, *third)))
+    return faults
+
+
+def no_rows(table, numbers):
+    several = any(len(of_column) > 1 for of_column in numbers)
+    return "no %s for %s" % ("rows" if several else "row", rows_named(table, numbers))
 
 
 def hours_of(rows, areas):
@@ -467,25 +567,53 @@ def hours_of(rows, areas):
 
 def intervals_of(rows, areas):
     """The pairs of quantity and price of each hour in order, by area and hour ending."""
-    counts = {number: 12 * area[6] for number, area in areas.items()}
+    greatest = greatest_intervals(rows)
 
-    def why_not(number, ending, interval):
-        if number not in counts:
+    def why_not(number, _ending, _interval):
+        if number not in areas:
             return not_an_area(number)
-        return "interval %d is beyond the %d of an hour of area %d, by its load points" % (
-            interval,
-            counts[number],
-            number,
-        )
+        area = areas[number]
+        return "an interval above %d; %s" % (interval_count(area), why_so_many(area))
+
+    def why_due(number, intervals):
+        """Said where intervals beyond those in the table are due: the load points may be wrong."""
+        beyond = intervals[-1] > greatest.get(number, 0)
+        return "; " + why_so_many(areas[number]) if beyond else ""
 
     due = [
         (number, ending, interval)
         for number in sorted(areas)
         for ending in endings()
-        for interval in range(1, counts[number] + 1)
+        for interval in range(1, interval_count(areas[number]) + 1)
     ]
-    hold_to(INTERVALS, rows, due, why_not)
-    return grouped(due, lambda key: rows[key].words[:2:-1])
+    hold_to(INTERVALS, rows, due, why_not, why_due)
+    return grouped(due, lambda key: pair_of(*rows[key].words))
+
+
+def greatest_intervals(rows):
+    """The greatest interval that stands in the table, of each area."""
+    greatest = {}
+    for number, _, interval in rows:
+        greatest[number] = max(interval, greatest.get(number, 0))
+    return greatest
+
+
+def interval_count(area):
+    """The intervals of an hour: 12 for each load point."""
+    *_, load_points = area
+    return 12 * load_points
+
+
+def why_so_many(area):
+    """As in: area 7 has 2 load points, so intervals 1 to 24 are due."""
+    number, *_, load_points = area
+    has = report_words.counted(load_points, "load point")
+    return "area %d has %s, so intervals 1 to %d are due" % (number, has, interval_count(area))
+
+
+def pair_of(_area, _ending, _interval, price, quantity):
+    """A pair has the quantity first, as the day file has it."""
+    return quantity, price
 
 
 def demands_of(rows, coordinators):

@@ -31,19 +31,6 @@ ROOT = Path(__file__).resolve().parent.parent
 # The calls of vectors.py whose payload is a day file and nothing else.
 DAY_FILE_CALLS = (vectors.CHECK, vectors.SETTLE, vectors.C_CALL)
 
-# Of a group of many cases that are alike one of so many is enough here.
-THINNED = {
-    "check_dates": 20,
-    "check_words_of_the_header": 3,
-    "check_damage": 4,
-    "settle_random": 4,
-    "settle_thresholds": 4,
-    "c_call_prices_seen": 3,
-    "c_call_off_peak_scaling": 8,
-    "c_call_surcharge_shown": 3,
-    "c_call_random": 13,
-}
-
 
 # Files that are there already
 
@@ -59,8 +46,7 @@ def files_of_vectors():
     counts = {}
     for group, case in vectors.committed_cases(DAY_FILE_CALLS):
         counts[group] = counts.get(group, 0) + 1
-        if counts[group] % THINNED.get(group, 1) == 0:
-            yield "%s-%d" % (group, counts[group]), case.payload
+        yield "%s-%d" % (group, counts[group]), case.payload
 
 
 # Days with a word broken on purpose: (name, file, number, where it was broken)

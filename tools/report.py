@@ -5,9 +5,9 @@
   csv    the charges that are not 0, in dollars, as lines for a spreadsheet
   page   one HTML page for a browser or for paper
 
-Every number that it writes is one that was printed; the sums are held against the totals first.
+Every amount that it writes is one that was printed; the sums are held against the totals first.
 Exit status: 0; 3 where csv or page have a refused day, with the sentence on standard error; 1 where
-the lines are not those of explain8080 or do not add up.
+the lines are not those of explain8080, do not add up, or contradict what a sentence would say.
 """
 
 import os

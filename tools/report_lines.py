@@ -1,7 +1,7 @@
 """What explain8080 prints, read into named numbers, and its sums held against its totals.
 
-docs/EXPLAIN.md says what the lines hold. Lines that are not so, or whose sums are off, raise a
-Fault, so that nothing is ever laid out that does not add up.
+docs/EXPLAIN.md says what the lines hold. Lines that are not so, whose sums are off, or whose amounts
+contradict what a sentence of the page would say, raise a Fault: nothing of the kind is laid out.
 """
 
 import re
@@ -12,6 +12,15 @@ import report_words as words
 HOURS = 24
 INTERVALS_OF_A_LOAD_POINT = 12
 PEAK_WORD = 4194240
+
+# m of each tier, in quarters (RULES.md, section 3).
+QUARTERS_OF_TIER = (0, 0, 5, 8)
+
+# W must be above 10 MW, in thousandths (RULES.md, section 6).
+DOWNWARD_FLOOR = 10000
+
+# How far the on-peak amount may be from S less the credit as they are shown (RULES.md, section 9).
+CENTS_APART = 1
 
 # The fields of each kind of line, in their order: the name in the header, and the name here.
 FIELDS = {
@@ -271,10 +280,19 @@ def hand_out_charges(areas, records):
     left = list(reversed(records))
     for area, hour in hours_of(areas):
         hour.charges = [left.pop() for _ in range(min(area.coordinator_count, len(left)))]
+        add_up_demands(hour.charges)
         if hour.ending == 1:
             area.coordinators = [each.coordinator for each in hour.charges]
         due += [(area.number, number, hour.ending) for number in area.coordinators]
     expect("charge", [(each.area, each.coordinator, each.ending) for each in records], due)
+
+
+def add_up_demands(charges):
+    """The demand up to and with each coordinator, which shares go by (RULES.md, section 8)."""
+    demand_so_far = 0
+    for each in charges:
+        demand_so_far += each.demand
+        each.demand_so_far = demand_so_far
 
 
 def hand_out_totals(day, records):
@@ -319,6 +337,10 @@ def check_hour(area, hour):
     present = [1 for each in hour.intervals if each.price is not None]
     same(where, "the number of intervals with a price", hour.present, present, str)
     check_price(where, area, hour)
+    for contradiction in contradictions(area, hour):
+        raise Fault("%s: %s." % (where, contradiction))
+    if area.kind:
+        check_shares(where, hour)
 
 
 def check_price(where, area, hour):
@@ -329,6 +351,82 @@ def check_price(where, area, hour):
         raise Fault("%s: whether the price is needed does not go with the tier." % where)
     if hour.price_needed and hour.price is None:
         raise Fault("%s: the price is needed, and there is none." % where)
+
+
+def contradictions(area, hour):
+    """What of an hour's amounts goes against the rules by which its sentence tells them. Each is asked
+    for only where those before it do not hold."""
+    yield from where_nothing_is_due(area, hour)
+    yield from on_peak_contradictions(area, hour)
+    yield from off_peak_contradictions(hour)
+    yield from downward_contradictions(hour)
+
+
+def where_nothing_is_due(area, hour):
+    """By sections 3 to 5 of RULES.md."""
+    on_peak = any((hour.on_peak, hour.surcharge, hour.credit))
+    if bool(hour.tier) != bool(hour.upward):
+        yield "the tier is not that of U"
+    if hour.quarters != QUARTERS_OF_TIER[area.day_tier if hour.peak else hour.tier]:
+        yield "m is not that of the tier"
+    if area.flag == 0 and (on_peak or hour.off_peak or hour.downward):
+        yield "the EDAM flag is 0, and there is an amount, S or a credit"
+    if hour.peak and hour.off_peak:
+        yield "it is a peak hour, and there is an off-peak amount"
+    if not hour.peak and on_peak:
+        yield "it is no peak hour, and there is an on-peak amount, S or a credit"
+    if hour.quarters == 0 and (on_peak or hour.off_peak):
+        yield "m is 0, and there is an on-peak or off-peak amount, S or a credit"
+
+
+def on_peak_contradictions(area, hour):
+    """By sections 4 and 9 of RULES.md."""
+    if hour.tier and hour.credit:
+        yield "the tier is %d, and there is a credit" % hour.tier
+    if min(hour.on_peak, hour.surcharge) < 0:
+        yield "the on-peak amount or S is below 0"
+    if hour.surcharge and area.greater_hub <= 0:
+        yield "the greater hub price is not above 0, and there is an S"
+    if abs(hour.on_peak - max(0, hour.surcharge - hour.credit)) > CENTS_APART:
+        yield "the on-peak amount is more than a cent from S less the credit"
+
+
+def off_peak_contradictions(hour):
+    """By section 5 of RULES.md."""
+    if hour.off_peak < 0:
+        yield "the off-peak amount is below 0"
+    if hour.off_peak and hour.price <= 0:
+        yield "the price is not above 0, and there is an off-peak amount"
+
+
+def downward_contradictions(hour):
+    """By section 6 of RULES.md."""
+    if hour.downward > 0:
+        yield "the downward amount is above 0"
+    if hour.downward and hour.downward_deficiency <= DOWNWARD_FLOOR:
+        yield "W is not above 10 MW, and there is a downward amount"
+    if hour.downward and hour.mec >= 0:
+        yield "MEC is not below 0, and there is a downward amount"
+
+
+def check_shares(where, hour):
+    """The charges of a CISO hour, as the page says that they come about (RULES.md, section 8)."""
+    if hour.amount and hour.demand == 0:
+        raise Fault("%s: there is an amount to share, and T is 0." % where)
+    charged = 0
+    for each in hour.charges:
+        charged += each.charge
+        due = rounded(hour.amount * each.demand_so_far, hour.demand) if hour.amount else 0
+        if charged != due:
+            text = "%s: the charges up to that of coordinator %d are %s, and must be %s."
+            texts = where, each.coordinator, words.dollars(charged), words.dollars(due)
+            raise Fault(text % texts)
+
+
+def rounded(numerator, denominator):
+    """R: to the nearest whole number, halves away from zero (RULES.md, section 1)."""
+    size = (2 * abs(numerator) + denominator) // (2 * denominator)
+    return -size if numerator < 0 else size
 
 
 def check_area(area):
@@ -342,6 +440,18 @@ def check_area(area):
     same(where, "the total of the charges, one by one,", area.total.charges, charges)
     if area.greater_hub != max(area.hub_a, area.hub_b):
         raise Fault("%s: the greater hub price is neither of the two, or the other one." % where)
+    check_day_tier(where, area)
+
+
+def check_day_tier(where, area):
+    """The day tier, M and m come from the peak hours (RULES.md, section 3)."""
+    peak = [hour for hour in area.hours if hour.peak]
+    if area.day_tier != max((hour.tier for hour in peak), default=0):
+        raise Fault("%s: the day tier is not the highest tier of the peak hours." % where)
+    if area.highest_upward != max((hour.upward for hour in peak), default=0):
+        raise Fault("%s: M is not the highest U of the peak hours." % where)
+    if area.quarters != QUARTERS_OF_TIER[area.day_tier]:
+        raise Fault("%s: m is not that of the day tier." % where)
 
 
 def check_coordinators(day):

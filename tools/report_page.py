@@ -1,5 +1,5 @@
 """The page of a day: one HTML file that needs nothing else, for a browser and for paper. It shows
-what explain8080 printed, and every number of it is one of those."""
+what explain8080 printed; its own are only counts, and the demands added up one by one."""
 
 import html
 import re
@@ -37,14 +37,26 @@ LETTERS = (
     ),
     (
         "price",
-        "the load-weighted price of the hour, over the five-minute intervals that have one; an"
-        " interval without a price is left out with its quantity",
+        "the load-weighted price of the hour: the sum of quantity × price over the sum of the same"
+        " quantities, over the five-minute intervals that have a price, to $0.0001; an interval"
+        " without a price is left out with its quantity",
     ),
     ("W", "the two downward deficiencies of an hour, added"),
     ("MEC", "the marginal energy cost of the hour"),
     ("A", "the on-peak, the off-peak and the downward amount of an hour, added"),
     ("T", "the metered demands of the hour, added"),
+    (
+        "rounding",
+        "once, to the nearest cent, halves away from zero: each amount from what is exact; S and the"
+        " credit, to be shown, each on its own",
+    ),
 )
+
+# Beside the number of intervals with a price, where it is not all.
+MISSING_MARK = "!"
+
+# A table of no more rows than this is kept on one sheet of paper.
+ROWS_OF_A_SHEET = 26
 
 
 # Numbers in tables, where the column says the unit
@@ -112,6 +124,10 @@ def table(caption, head_rows, body_rows, foot="", identifier="", css=""):
     )
 
 
+def kept_together(rows):
+    return "together" if len(rows) <= ROWS_OF_A_SHEET else ""
+
+
 def wide(label, content):
     """A box of its own, in which a wide table or picture is moved by hand or by keys."""
     box = '<div class="wide" role="group" aria-label="%s" tabindex="0">\n%s</div>\n'
@@ -120,6 +136,11 @@ def wide(label, content):
 
 def link(target, content):
     return '<a href="#%s">%s</a>' % (target, content)
+
+
+def notice(texts):
+    """A box that stands out."""
+    return '<div class="notice">\n%s</div>\n' % "".join("<p>%s</p>\n" % text for text in texts)
 
 
 def unbroken(text):
@@ -158,6 +179,10 @@ def hour_name(area, part, hour):
     return "area-%d-%s-%d" % (area.number, part, hour.ending)
 
 
+def area_and_hour(hour):
+    return "area %d, hour ending %d" % (hour.area, hour.ending)
+
+
 # The whole
 
 
@@ -167,8 +192,13 @@ def document(title, body):
         '<meta name="viewport" content="width=device-width, initial-scale=1">\n'
         '<meta name="color-scheme" content="light dark">\n'
         '<title>%s</title>\n<link rel="icon" href="data:,">\n<style>%s</style>\n</head>\n'
-        "<body>\n%s</body>\n</html>\n" % (title, STYLE, body)
+        "<body>\n%s</body>\n</html>\n" % (title, STYLE + sheet_foot(title), body)
     )
+
+
+def sheet_foot(title):
+    """The title at the foot of each sheet of paper; the style has the sheet's number beside it."""
+    return '@page { @bottom-left { content: "%s"; } }\n' % title
 
 
 def settled(day):
@@ -177,7 +207,7 @@ def settled(day):
         head(day),
         contents(day),
         "<main>\n",
-        section("day", "The day", day_totals(day) + charged_hours(day) + missing_of_day(day)),
+        section("day", "The day", day_totals(day) + missing_of_day(day) + charged_hours(day)),
         section("areas", "Areas", areas_table(day)),
         section("coordinators", "Coordinators", coordinators_table(day)),
     ]
@@ -187,13 +217,15 @@ def settled(day):
 
 
 def refused(what, look):
-    """A short page with the refusal's sentence, and what to look at."""
+    """A short page with the refusal's sentence, and what to do."""
+    box = notice((html.escape(what), "<strong>What to do.</strong> " + html.escape(look)))
     body = (
-        '<main>\n<p class="code">Charge code 8080</p>\n<h1>Refused: nothing is settled</h1>\n'
-        '<div class="refused">\n<p>%s</p>\n<p><strong>What to look at.</strong> %s</p>\n</div>\n'
-        "<p>No number of the statement is written, and no part of the day is charged. One refusal is"
-        " given at a time: mend it and run again, and a second fault shows up then. What each number"
-        " means is in docs/REFUSALS.md.</p>\n</main>\n" % (html.escape(what), html.escape(look))
+        '<main>\n<p class="code">Charge code 8080: resource sufficiency surcharges</p>\n'
+        "<h1>Nothing of this day is settled</h1>\n<p>The day file is refused.</p>\n%s"
+        "<p>No number of the statement is written, and nobody is charged for any hour of the day. What"
+        " explain8080 prints of a refused file does not name its trading day.</p>\n"
+        "<p>One refusal is given at a time: mend it and run again, and a second fault shows up then."
+        " What each number means is in docs/REFUSALS.md.</p>\n</main>\n" % box
     )
     return document("Charge code 8080: refused", body)
 
@@ -222,9 +254,9 @@ def contents(day):
 
 def foot():
     return (
-        "<footer>\n<p>Each number is one that explain8080 printed, and every total was held against"
-        " what it is the sum of. docs/RULES.md has the rules, docs/EXPLAIN.md the numbers.</p>\n"
-        "</footer>\n"
+        "<footer>\n<p>Each number is one that explain8080 printed, or a count or a sum of such, as the"
+        " demand so far is; every total was held against what it is the sum of. docs/RULES.md has the"
+        " rules, docs/EXPLAIN.md the numbers.</p>\n</footer>\n"
     )
 
 
@@ -257,21 +289,54 @@ def charged_hours(day):
 
 
 def missing_of_day(day):
-    """Where prices are missing, so that it is seen before the day is signed."""
-    places = []
-    for area in day.areas:
-        endings = [hour.ending for hour in area.hours if hour.missing]
-        if endings:
-            hours = "hour" if len(endings) == 1 else "hours"
-            place = "%s in the %s ending %s" % (
-                link("%s-intervals" % area_name(area), "area %d" % area.number),
-                hours,
-                words.listed_runs(endings),
-            )
-            places.append(place)
-    if not places:
+    """Where prices are missing, so that it is seen before the day is signed: first the hours on whose
+    price an amount rests, a charge before one that came to 0, and then the others."""
+    hours = [(area, hour) for area in day.areas for hour in area.hours if hour.missing]
+    if not hours:
         return "<p>Every five-minute interval has a price.</p>\n"
-    return "<p>Five-minute prices are missing: %s.</p>\n" % "; ".join(places)
+    charged, nothing, idle = [], [], []
+    for area, hour in hours:
+        by_price = hour.on_peak if hour.peak else hour.off_peak
+        group = idle if not hour.price_needed else charged if by_price else nothing
+        group.append((area, hour))
+    return notice(missing_texts(charged, nothing, idle))
+
+
+def missing_texts(charged, nothing, idle):
+    """A text for each group of hours that there is."""
+    if charged:
+        lead = "A charge rests on" if len(charged) == 1 else "Charges rest on"
+        yield missing_text(lead, charged)
+    if nothing:
+        lead = "An amount that came to $0.00 rests on"
+        yield missing_text(lead if len(nothing) == 1 else "Amounts that came to $0.00 rest on", nothing)
+    if idle:
+        lead = "Missing too" if charged or nothing else "Prices are missing"
+        yield "%s, but no amount rests on them: %s." % (lead, missing_places(idle))
+
+
+def missing_text(lead, hours):
+    what = "an hour" if len(hours) == 1 else "hours"
+    return "<strong>%s %s with missing prices:</strong> %s." % (lead, what, missing_places(hours))
+
+
+def missing_places(hours):
+    """The hours by area and by how many of their prices are missing."""
+    endings = {}
+    for area, hour in hours:
+        missing = area_name(area), area.number, len(hour.missing), len(hour.intervals)
+        endings.setdefault(missing, []).append(hour.ending)
+    return "; ".join(
+        "%s, %s (%d of %d missing%s)"
+        % (
+            link("%s-intervals" % name, "area %d" % number),
+            words.hours_ending(of_these),
+            missing,
+            count,
+            "" if len(of_these) == 1 else " in each",
+        )
+        for (name, number, missing, count), of_these in endings.items()
+    )
 
 
 def hub_cell(price, greater):
@@ -387,37 +452,59 @@ def facts(area):
         )
         return "<p>%s</p>\n" % unbroken(" ".join(texts))
     texts.append("It takes part in the extended day-ahead market (EDAM flag 1).")
-    texts += peak_facts(area)
-    return "<p>%s</p>\n" % unbroken(" ".join(texts))
+    texts += [day_tier_fact(area), hub_fact(area), persistent_fact(area), surcharge_fact(area)]
+    return "<p>%s</p>\n" % unbroken(" ".join(filter(None, texts)))
 
 
-def peak_facts(area):
+def day_tier_fact(area):
+    """The day tier and M, and the hours that set them (RULES.md, section 3)."""
     peak = [hour for hour in area.hours if hour.peak]
     if not peak:
-        texts = ["The day has no peak hours, so that the day tier and M are 0."]
-    else:
-        texts = [
-            "The highest tier of its peak hours, the day tier, is %d, and the highest U of its peak"
-            " hours, M, is %s." % (area.day_tier, sentences.power(area.highest_upward))
-        ]
-    texts.append(
-        "Persistent days d are %d, which scales a multiplier by %s."
-        % (area.persistent_days, words.scale(area.persistent_days))
+        return "The day has no peak hours, so that the day tier and M are 0."
+    if area.day_tier == 0:
+        return "No peak hour has an upward deficiency, so that the day tier and M are 0."
+    setting = [hour.ending for hour in peak if hour.tier == area.day_tier]
+    highest = [hour.ending for hour in peak if hour.upward == area.highest_upward]
+    return (
+        "The day tier, the highest tier of its peak hours, is %d (%s), and M, the highest U of its peak"
+        " hours, is %s (%s)."
+        % (
+            area.day_tier,
+            words.hours_ending(setting),
+            sentences.power(area.highest_upward),
+            words.hours_ending(highest),
+        )
     )
-    hubs = "The hub prices are %s (A) and %s (B), the greater one P is %s." % (
+
+
+def hub_fact(area):
+    return "The hub prices are %s (A) and %s (B); P, the greater one, is %s." % (
         sentences.money(area.hub_a),
         sentences.money(area.hub_b),
         sentences.money(area.greater_hub),
     )
-    texts.append(hubs)
-    if area.quarters:
-        texts.append(
-            "m of the day tier is %s, so that S, the surcharge of each peak hour before its credit, is"
-            " %s." % (words.multiplier(area.quarters), sentences.money(peak[0].surcharge))
-        )
-    elif peak:
-        texts.append("On a day of tier 0 or 1 nothing is charged on-peak.")
-    return texts
+
+
+def persistent_fact(area):
+    days = area.persistent_days
+    scale = words.scale(days)
+    return "d, the persistent days, is %d, which scales a multiplier by 1 + d/100 = %s." % (days, scale)
+
+
+def surcharge_fact(area):
+    """S, which is the same in every peak hour, with the names of its factors."""
+    peak = [hour for hour in area.hours if hour.peak]
+    if not peak:
+        return ""
+    if area.quarters == 0:
+        return "On a day of tier 0 or 1 nothing is charged on-peak."
+    product = sentences.surcharge_product(area)
+    below = " is below 0, and S never is: it" if area.greater_hub < 0 else ""
+    return (
+        "m of the day tier is %s. S, the surcharge of each peak hour before its credit, is"
+        " M × P × m × (1 + d/100) = %s%s = %s."
+        % (words.multiplier(area.quarters), product, below, sentences.money(peak[0].surcharge))
+    )
 
 
 def chart(caption, picture, note=""):
@@ -429,9 +516,10 @@ def chart(caption, picture, note=""):
 def charts(area):
     parts = []
     if any(sentences.is_charged(hour) for hour in area.hours):
-        parts.append(chart("Amounts by hour", pictures.amounts(area)))
+        caption = "Amounts of area %d by hour" % area.number
+        parts.append(chart(caption, pictures.amounts(area)))
     if any(hour.upward for hour in area.hours):
-        caption = "U by hour against the lines between the tiers"
+        caption = "U of area %d by hour against the lines between the tiers" % area.number
         note = (
             "The number on a bar is the tier of the hour. The scale is not even: from 1 MW on, each"
             " line of the grid is ten times the one below it."
@@ -458,11 +546,13 @@ def hour_sentences(area):
         if sentences.has_sentence(area, hour):
             where = charged if sentences.is_charged(hour) else others
             where.append((hour_name(area, "hour", hour), sentences.hour_sentence(area, hour)))
+    factors = sentences.factors(area)
+    legend = '<p class="note">%s</p>\n' % factors if factors else ""
     text = ""
-    if charged:
-        text += heading(3, "Hours that are charged") + list_of(charged)
-    if others:
-        text += heading(3, "Hours that come to nothing") + list_of(others)
+    for title, items in (("Hours that are charged", charged), ("Hours that come to nothing", others)):
+        if items:
+            text += heading(3, title) + legend + list_of(items)
+            legend = ""  # it stands above the first list alone
     return text
 
 
@@ -476,9 +566,11 @@ def charges(area):
     text = heading(3, "Charges")
     if area.kind == 0:
         return text + one_coordinator(area, hours)
+    # RULES.md, section 8.
     text += (
-        "<p>Each hour's A is shared among the coordinators by their demands, by running totals, so"
-        " that the charges add up to A to the cent.</p>\n"
+        "<p>A coordinator is charged A × C / T less A × C′ / T, each rounded to the cent, halves away"
+        " from zero: C is the demand so far with its own, C′ without it. So the charges add up to A,"
+        " and each is less than a cent from A × its demand / T.</p>\n"
     )
     tables = [shares(area, hour) for hour in hours]
     return text + '<div class="grid-of-shares">\n%s</div>\n' % "".join(tables)
@@ -493,37 +585,48 @@ def one_coordinator(area, hours):
             cells = [row_head(hour.ending), cell(each.coordinator), cell(quantity(each.demand))]
             rows.append(row(cells + [cell(amount(each.charge))]))
     whole = row([row_head("all"), '<td colspan="2"></td>', cell(amount(area.total.charges))])
-    caption = "The one coordinator is charged the whole A of each hour"
+    caption = "The one coordinator of area %d is charged the whole A of each hour" % area.number
     name = "%s-charges" % area_name(area)
-    content = table(caption, [row(columns)], rows, whole, name)
+    content = table(caption, [row(columns)], rows, whole, name, kept_together(rows))
     return wide("Charges of area %d" % area.number, content)
 
 
 def shares(area, hour):
     columns = [column("coordinator"), column("demand", "MWh")]
-    columns += [column("share of demand"), column("charge", "$")]
-    whole = words.quantity(hour.demand)
+    columns += [column("demand so far", "MWh"), column("charge", "$")]
     rows = [
         row(
             [
                 row_head(each.coordinator),
                 cell(quantity(each.demand)),
-                cell("%s of %s" % (quantity(each.demand), whole)),
+                cell(quantity(each.demand_so_far)),
                 cell(amount(each.charge)),
             ]
         )
         for each in hour.charges
     ]
-    caption = "hour ending %d: A %s over T %s MWh" % (hour.ending, sentences.money(hour.amount), whole)
+    whole = [row_head("T, A"), cell(quantity(hour.demand)), "<td></td>", cell(amount(hour.amount))]
+    caption = unbroken(shares_caption(hour))
+    # On paper the caption stands in the head instead, which each sheet repeats.
+    on_paper = row(['<th scope="colgroup" colspan="%d">%s</th>' % (len(columns), caption)], "on-paper")
     name = hour_name(area, "shares", hour)
-    label = "Shares of area %d, hour ending %d" % (area.number, hour.ending)
-    return wide(label, table(caption, [row(columns)], rows, identifier=name))
+    label = "Shares of " + area_and_hour(hour)
+    css = " ".join(filter(None, ["shares", kept_together(rows)]))
+    return wide(label, table(caption, [on_paper, row(columns)], rows, row(whole), name, css))
+
+
+def shares_caption(hour):
+    return "%s: A %s over T %s MWh" % (
+        area_and_hour(hour),
+        sentences.money(hour.amount),
+        words.quantity(hour.demand),
+    )
 
 
 # The 24 hours
 
 GROUPS = (
-    ("", (("hour ending", ""), ("", ""))),
+    ("", (("hour ending", ""), ("peak", ""))),
     ("upward deficiency", (("U", "MW"), ("Q", "MW"), ("tier", ""), ("m", ""))),
     ("load-weighted price", (("needed", ""), ("price", "$/MWh"), ("intervals", ""))),
     ("on-peak", (("S", "$"), ("credit", "$"), ("amount", "$"))),
@@ -542,9 +645,11 @@ def hours_table(area):
             groups.append('<td colspan="%d"></td>' % len(members))
         for place, (title, unit) in enumerate(members):
             first = "first" if name and place == 0 else ""
-            columns.append(column(title or "peak", unit, first))
+            columns.append(column(title, unit, first))
     rows = [row(hour_cells(area, hour), "peak" if hour.peak else "") for hour in area.hours]
     caption = "What the amounts of each hour of area %d come from" % area.number
+    if any(hour.missing for hour in area.hours):
+        caption += "; %s marks an hour with missing prices" % MISSING_MARK
     heads = [row(groups), row(columns)]
     hours = table(caption, heads, rows, row(whole_cells(area)), css="dense")
     return heading(3, "The 24 hours") + wide("The 24 hours of area %d" % area.number, hours)
@@ -563,7 +668,7 @@ def hour_cells(area, hour):
         cell(multiplier(hour.quarters)),
         '<td class="first%s">%s</td>' % ("" if hour.price_needed else " none", YES[hour.price_needed]),
         cell(market_price(hour.price)),
-        "<td>%d of %d</td>" % (hour.present, len(hour.intervals)),
+        intervals_cell(hour),
         cell(amount(hour.surcharge), "first"),
         cell(amount(hour.credit)),
         cell(amount(hour.on_peak)),
@@ -574,6 +679,14 @@ def hour_cells(area, hour):
         cell(amount(hour.amount), "first"),
         cell(quantity(hour.demand)),
     ]
+
+
+def intervals_cell(hour):
+    """How many intervals have a price, with a mark where some have none."""
+    count = "%d of %d" % (hour.present, len(hour.intervals))
+    if not hour.missing:
+        return "<td>%s</td>" % count
+    return '<td class="missing">%s %s</td>' % (MISSING_MARK, count)
 
 
 def whole_cells(area):
@@ -627,7 +740,7 @@ def prices_caption(hour):
         texts.append("missing: %s" % words.listed_runs(hour.missing))
     if not hour.price_needed:
         texts.append("not needed")
-    return "<b>hour ending %d</b>: %s" % (hour.ending, ", ".join(texts))
+    return "<b>%s</b>: %s" % (area_and_hour(hour), unbroken(", ".join(texts)))
 
 
 def intervals_table(hour):
@@ -642,5 +755,5 @@ def intervals_table(hour):
     columns = [column("interval"), column("quantity", "MWh"), column("price", "$/MWh")]
     return "<details>\n<summary>the %d intervals in numbers</summary>\n%s</details>\n" % (
         len(hour.intervals),
-        table("hour ending %d" % hour.ending, [row(columns)], rows),
+        table(area_and_hour(hour), [row(columns)], rows),
     )

@@ -8,8 +8,7 @@ import math
 
 import report_sentences as sentences
 import report_words as words
-
-HOURS = 24
+from report_lines import AMOUNTS, HOURS
 
 # The paper of the two pictures of an area.
 WIDTH, HEIGHT = 560, 236
@@ -114,12 +113,6 @@ class Paper:
 
 # The three amounts, told apart by a pattern each
 
-KINDS_OF_AMOUNT = (
-    ("on_peak", "on-peak"),
-    ("off_peak", "off-peak"),
-    ("downward", "downward"),
-)
-
 
 def patterns(name):
     """The patterns of a picture: off-peak is striped and downward dotted; on-peak is filled."""
@@ -154,7 +147,7 @@ def of_kind(attribute, shapes, name):
 def key(paper, hours, name):
     """Which pattern is which, of the kinds that are there."""
     parts, x, y = [], paper.left, paper.bottom + 27
-    for attribute, kind in KINDS_OF_AMOUNT:
+    for attribute, kind in AMOUNTS:
         if any(getattr(hour, attribute) for hour in hours):
             parts.append(of_kind(attribute, [block(x, y - 9, y, 12)], name))
             parts.append(text(x + 17, y, kind, "small", "start"))
@@ -165,11 +158,10 @@ def key(paper, hours, name):
 def charged_label(area):
     """The hours of an area that are charged, in words."""
     texts = []
-    for attribute, kind in KINDS_OF_AMOUNT:
+    for attribute, kind in AMOUNTS:
         endings = [hour.ending for hour in area.hours if getattr(hour, attribute)]
         if endings:
-            hours = "hour" if len(endings) == 1 else "hours"
-            texts.append("%s in the %s ending %s" % (kind, hours, words.listed_runs(endings)))
+            texts.append("%s in the %s" % (kind, words.hours_ending(endings)))
     return "area %d %s" % (area.number, ", ".join(texts) if texts else "in no hour")
 
 
@@ -183,7 +175,7 @@ def charged_hours(day):
     height = LEAST_HEIGHT + ROW * len(day.areas)
     paper = Paper(RIGHT, height)
     parts = patterns("day") + paper.peak_hours(day.areas[0].hours)
-    shapes = {attribute: [] for attribute, _ in KINDS_OF_AMOUNT}
+    shapes = {attribute: [] for attribute, _ in AMOUNTS}
     for place, area in enumerate(day.areas):
         top = paper.top + ROW * place
         parts.append(text(paper.left - 6, top + 12, area.number, "small", "end"))
@@ -195,7 +187,7 @@ def charged_hours(day):
                     shapes[attribute].append(block(x, top + 2, top + 9, 13))
             if hour.downward:
                 shapes["downward"].append(block(x, top + 10.5, top + 15, 13))
-    parts += [of_kind(attribute, shapes[attribute], "day") for attribute, _ in KINDS_OF_AMOUNT]
+    parts += [of_kind(attribute, shapes[attribute], "day") for attribute, _ in AMOUNTS]
     parts += paper.hour_names()
     parts += key(paper, [hour for area in day.areas for hour in area.hours], "day")
     label = "Hours that are charged: %s." % "; ".join(charged_label(area) for area in day.areas)
@@ -217,7 +209,7 @@ def round_step(most):
 
 def amounts_label(area):
     texts = []
-    for attribute, name in KINDS_OF_AMOUNT:
+    for attribute, name in AMOUNTS:
         each = [
             "%s in the hour ending %d" % (sentences.money(getattr(hour, attribute)), hour.ending)
             for hour in area.hours
@@ -246,7 +238,7 @@ def amounts(area):
     parts = patterns(name) + paper.peak_hours(area.hours)
     for count in range(-int(steps_down), steps_up + 1):
         parts.append(paper.grid(height(count * step), axis_dollars(count * step, step)))
-    for attribute, _ in KINDS_OF_AMOUNT:
+    for attribute, _ in AMOUNTS:
         parts.append(of_kind(attribute, bars_of(paper, area, attribute, height), name))
     parts.append(line(paper.left, height(0), paper.right, height(0), "zero"))
     parts += paper.hour_names() + key(paper, area.hours, name)
@@ -359,7 +351,8 @@ SMALL_LEFT, SMALL_RIGHT, SMALL_TOP, SMALL_BOTTOM = 56, 4, 10, 14
 
 def prices_label(hour):
     present = [each.price for each in hour.intervals if each.price is not None]
-    label = "Interval prices of the hour ending %d: %d of %d, from %s to %s" % (
+    label = "Interval prices of area %d, hour ending %d: %d of %d, from %s to %s" % (
+        hour.area,
         hour.ending,
         hour.present,
         len(hour.intervals),

@@ -2,22 +2,19 @@
 intervals have no price. Every number in them is one of explain8080's."""
 
 import report_words as words
-from report_lines import Fault
+from report_lines import DOWNWARD_FLOOR, PEAK_WORD, Fault
 
+# What the rules allow (RULES.md, section 2).
 MISSING = -2147483648
-MOST_BYTES = 65536
+LEAST_BYTES, MOST_BYTES = 16, 65536
 LEAST_BODY, MOST_BODY = 800, 2951
 MOST_AREAS = 8
 MOST_COORDINATORS = 64
-
-# W must be above 10 MW (RULES.md, section 6).
-DOWNWARD_FLOOR = 10000
-
-NUMBER_RANGE = "1 to 2,147,483,647"
+MOST_NUMBER = 2147483647
 
 HOW_MISSING_IS_WRITTEN = (
-    "is -2147483648, which is how a missing price is written; only an interval price may be missing,"
-    " and this"
+    "is %d, which is how a missing price is written; only an interval price may be missing, and this"
+    % MISSING
 )
 
 
@@ -26,6 +23,11 @@ HOW_MISSING_IS_WRITTEN = (
 
 def with_commas(value):
     return format(value, ",")
+
+
+def from_to(least, most):
+    """16 to 65,536."""
+    return "%s to %s" % (with_commas(least), with_commas(most))
 
 
 def in_file(written, value):
@@ -49,6 +51,8 @@ def market_dollars(value):
     return in_file(words.market_dollars(value) + " a MWh", value)
 
 
+NUMBER_RANGE = from_to(1, MOST_NUMBER)
+BYTES_RANGE = from_to(LEAST_BYTES, MOST_BYTES)
 DEFICIENCY = (megawatts, "0 to 2,500 MW")
 HUB_PRICE = (hub_dollars, "-$2,000.00 to $2,000.00 a MWh")
 
@@ -59,14 +63,14 @@ RANGES = {
         str,
         "a real date of the years 2000 to 2099, written YYYYMMDD",
     ),
-    "areas": ("the number of areas", str, "1 to 8"),
+    "areas": ("the number of areas", str, from_to(1, MOST_AREAS)),
     "peak word": (
         "the peak word",
         str,
-        "0 (no peak hours) or 4194240 (the hours ending 7 to 22)",
+        "0 (no peak hours) or %d (the hours ending 7 to 22)" % PEAK_WORD,
     ),
     "area number": ("its area number", str, NUMBER_RANGE),
-    "words": ("the length of its body in words", with_commas, "800 to 2,951"),
+    "words": ("the length of its body in words", with_commas, from_to(LEAST_BODY, MOST_BODY)),
     "kind": ("its kind", str, "0 (any other area) or 1 (CISO)"),
     "flag": ("its EDAM flag", str, "0 or 1"),
     "persistent days": ("the number of its persistent days", str, "0 to 30"),
@@ -76,7 +80,7 @@ RANGES = {
     "coordinators": (
         "the number of its coordinators",
         str,
-        "1 to 64 in the CISO area and exactly 1 in any other",
+        from_to(1, MOST_COORDINATORS) + " in the CISO area and exactly 1 in any other",
     ),
     "coordinator": ("the number of its {which} coordinator", str, NUMBER_RANGE),
     "upward energy": ("the upward deficiency of energy",) + DEFICIENCY,
@@ -95,7 +99,7 @@ RANGES = {
     "interval price": (
         "the price of interval {which}",
         market_dollars,
-        "-$2,000 to $2,000 a MWh, or -2147483648 where it is missing",
+        "-$2,000 to $2,000 a MWh, or %d where it is missing" % MISSING,
     ),
     "demand": (
         "the metered demand of the {which} coordinator",
@@ -134,11 +138,12 @@ def out_of_range(refusal):
 
 def broken_length(refusal):
     if refusal.value > MOST_BYTES:
-        return "the file has more than 65,536 bytes, and must have 16 to 65,536"
-    name = "byte" if refusal.value == 1 else "bytes"
-    return "the file has %s %s, and must have 16 to 65,536, a multiple of 4" % (
+        most = with_commas(MOST_BYTES)
+        return "the file has more than %s bytes, and must have %s" % (most, BYTES_RANGE)
+    return "the file has %s %s, and must have %s, a multiple of 4" % (
         with_commas(refusal.value),
-        name,
+        "byte" if refusal.value == 1 else "bytes",
+        BYTES_RANGE,
     )
 
 
@@ -211,23 +216,23 @@ def broken_sum(refusal):
 
 
 def broken_quantities(refusal):
-    return (
-        "the price of this hour is needed, and %s there, but no quantity stands under %s"
-        % (prices_present(refusal), "it" if refusal.present == 1 else "them")
-    )
+    under = "it" if refusal.present == 1 else "them"
+    return "%s, but no quantity stands under %s" % (needed_and_present(refusal), under)
 
 
 def broken_prices(refusal):
+    least = refusal.intervals * 3 // 4
+    return "%s; at least %d must be (three quarters)" % (needed_and_present(refusal), least)
+
+
+def needed_and_present(refusal):
+    """Why the price is needed (RULES.md, section 7), and how many prices it has."""
     return (
-        "the price of this hour is needed, and %s there; at least %d must be (three quarters)"
-        % (prices_present(refusal), refusal.intervals * 3 // 4)
+        "the price of this hour is needed (it is an off-peak hour of tier 2 or 3, or a peak hour"
+        " without an upward deficiency on a day of tier 2 or 3), and %s of its %d five-minute prices"
+        " %s there"
+        % (refusal.present or "none", refusal.intervals, "is" if refusal.present <= 1 else "are")
     )
-
-
-def prices_present(refusal):
-    number = refusal.present if refusal.present else "none"
-    verb = "is" if refusal.present <= 1 else "are"
-    return "%s of its %d five-minute prices %s" % (number, refusal.intervals, verb)
 
 
 def broken_demands(refusal):
@@ -282,7 +287,8 @@ LOOK_AT = {
     11: "Look at the hour's interval quantities.",
     12: "Look at the hour's metered demands.",
     13: "Look at the caller's room.",
-    16: "Ask for the missing ones: a price that is filled in makes a charge that nobody owes.",
+    16: "Ask for the missing ones: a price that is filled in makes a charge that nobody owes."
+    " tools/dayfile show FILE lists them: the empty prices of that hour in intervals.csv.",
 }
 LOOK_AT_BODY_LENGTH = "Look at load points, coordinators and the length of the body together."
 
@@ -350,6 +356,19 @@ def has_sentence(area, hour):
     return any((hour.upward, hour.downward_deficiency, hour.quarters))
 
 
+def factors(area):
+    """Which number of the sentences of an area is which, of the products that stand in them."""
+    multiplied = [hour for hour in area.hours if hour.quarters]
+    texts = []
+    if any(hour.peak for hour in multiplied):
+        texts.append("on-peak M × P × m × (1 + d/100) = S, and the credit M × price")
+    if any(not hour.peak for hour in multiplied):
+        texts.append("off-peak U × price × m × (1 + d/100)")
+    if any(hour.downward_deficiency > DOWNWARD_FLOOR for hour in area.hours):
+        texts.append("downward W × MEC")
+    return "The factors stand in this order: %s." % "; ".join(texts) if texts else ""
+
+
 def hour_sentence(area, hour):
     """What the amounts of an hour come from, by sections 4 to 6 of RULES.md."""
     upward = on_peak_part(area, hour) if hour.peak else off_peak_part(area, hour)
@@ -360,9 +379,25 @@ def hour_sentence(area, hour):
     return text
 
 
+def upward_of_requirement(hour):
+    """What a tier comes from (RULES.md, section 3)."""
+    return "U %s of Q %s" % (power(hour.upward), power(hour.requirement))
+
+
+def hour_price(hour):
+    """The load-weighted price; where intervals are missing, with the number that it rests on."""
+    if not hour.missing:
+        return price(hour.price)
+    count = hour.present, len(hour.intervals)
+    return "price %s (on %d of %d intervals)" % (price(hour.price), *count)
+
+
 def on_peak_part(area, hour):
+    if hour.quarters == 0 and hour.upward == 0:
+        return ""
     if hour.quarters == 0:
-        return "on-peak: day tier %d, nothing is charged" % area.day_tier if hour.upward else ""
+        deficiency = upward_of_requirement(hour), hour.tier
+        return "on-peak: day tier %d, nothing is charged (%s, tier %d)" % (area.day_tier, *deficiency)
     return "on-peak: day tier %d, %s, %s, %s" % (
         area.day_tier,
         surcharge_part(area, hour),
@@ -371,13 +406,18 @@ def on_peak_part(area, hour):
     )
 
 
-def surcharge_part(area, hour):
-    product = "M %s × %s × %s × %s" % (
+def surcharge_product(area):
+    """The numbers of M × P × m × (1 + d/100), in this order."""
+    return "%s × %s × %s × %s" % (
         power(area.highest_upward),
         money(area.greater_hub),
-        words.multiplier(hour.quarters),
+        words.multiplier(area.quarters),
         words.scale(area.persistent_days),
     )
+
+
+def surcharge_part(area, hour):
+    product = "M " + surcharge_product(area)
     if area.greater_hub < 0:
         return "%s is below 0, so that S is %s" % (product, money(hour.surcharge))
     return "%s = S %s" % (product, money(hour.surcharge))
@@ -385,8 +425,11 @@ def surcharge_part(area, hour):
 
 def credit_part(area, hour):
     if hour.tier != 0:
-        return "no credit, as the hour failed itself (U %s, tier %d)" % (power(hour.upward), hour.tier)
-    product = "%s × %s" % (power(area.highest_upward), price(hour.price))
+        return "no credit, as the hour has an upward deficiency itself (%s, tier %d)" % (
+            upward_of_requirement(hour),
+            hour.tier,
+        )
+    product = "%s × %s" % (power(area.highest_upward), hour_price(hour))
     return "credit %s = %s" % (product, money(hour.credit))
 
 
@@ -395,19 +438,23 @@ def charged_part(hour):
     if less < 0:
         return "S less the credit is below 0, charged %s" % money(hour.on_peak)
     if less != hour.on_peak:
-        return "charged %s (rounded once, from what is exact)" % money(hour.on_peak)
+        return (
+            "charged %s (S and the credit are shown rounded; the charge is rounded once, from their"
+            " exact difference)" % money(hour.on_peak)
+        )
     return "charged %s" % money(hour.on_peak)
 
 
 def off_peak_part(area, hour):
+    if hour.upward == 0:
+        return ""
+    tier = "off-peak: tier %d (%s)" % (hour.tier, upward_of_requirement(hour))
     if hour.quarters == 0:
-        if hour.upward == 0:
-            return ""
-        return "off-peak: tier %d, U %s, nothing is charged" % (hour.tier, power(hour.upward))
-    product = "off-peak: tier %d, U %s × %s × %s × %s" % (
-        hour.tier,
+        return "%s, nothing is charged" % tier
+    product = "%s, U %s × %s × %s × %s" % (
+        tier,
         power(hour.upward),
-        price(hour.price),
+        hour_price(hour),
         words.multiplier(hour.quarters),
         words.scale(area.persistent_days),
     )
@@ -446,4 +493,5 @@ def missing_intervals(hour):
 def rests_on(hour):
     if not hour.price_needed:
         return "the price of this hour is not needed, and no amount rests on it"
-    return "the price rests on the other %d" % hour.present
+    kind = "on-peak" if hour.peak else "off-peak"
+    return "the price rests on the other %d, and the %s amount on that price" % (hour.present, kind)

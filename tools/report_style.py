@@ -29,7 +29,7 @@ h1 { margin: .2rem 0; font-size: 2rem; }
 h2 { margin: 0 0 .75rem; font-size: 1.4rem; }
 h3 { margin: 2rem 0 .5rem; font-size: 1.05rem; }
 p, ul { max-width: 75ch; }
-.quiet, caption, figcaption, .unit, th small { color: var(--quiet); }
+caption, figcaption, th small { color: var(--quiet); }
 .code { margin: 0; color: var(--quiet); }
 nav ul {
   display: flex; flex-wrap: wrap; gap: .25rem 1.25rem; max-width: none; margin: 1rem 0 0;
@@ -54,8 +54,11 @@ dl.letters dt { font-weight: 600; }
 dl.letters dd { margin: 0; }
 .wide { overflow-x: auto; margin: .75rem 0; }
 table { border-collapse: collapse; font-size: .875rem; line-height: 1.35; }
-caption { padding: 0 0 .4rem; text-align: left; }
+caption {
+  position: sticky; left: 0; max-width: calc(100vw - 2.5rem); padding: 0 0 .4rem; text-align: left;
+}
 @media (min-width: 40rem) { caption { white-space: nowrap; } }
+tr.on-paper { display: none; }
 th, td {
   padding: .28rem .5rem; text-align: right; white-space: nowrap;
   border-bottom: 1px solid var(--rule);
@@ -90,7 +93,7 @@ figcaption { font-size: .875rem; }
 svg { display: block; width: 100%; height: auto; }
 svg.chart { min-width: 27rem; max-width: 42rem; }
 svg.small-chart { max-width: 20rem; }
-.note { margin: .25rem 0 0; font-size: .8125rem; color: var(--quiet); }
+.note { max-width: 100ch; margin: .25rem 0 0; font-size: .8125rem; color: var(--quiet); }
 svg text { font: 11px system-ui, -apple-system, "Segoe UI", Roboto, sans-serif; fill: var(--text); }
 svg text.small { font-size: 10px; fill: var(--quiet); }
 svg text.mark {
@@ -114,7 +117,7 @@ pattern .soft { fill-opacity: .22; }
 .price-bar { fill: var(--price); }
 .weighted { fill: none; stroke: var(--text); stroke-width: 1.4; stroke-dasharray: 5 3; }
 .missing { fill: none; stroke: var(--missing); stroke-width: 1.8; }
-td.missing { color: var(--missing); }
+td.missing { color: var(--missing); font-weight: 700; }
 .grid-of-hours {
   display: grid; grid-template-columns: repeat(auto-fill, minmax(min(16rem, 100%), 1fr));
   gap: 1.25rem 1.75rem; margin: 1rem 0; align-items: start;
@@ -126,15 +129,20 @@ td.missing { color: var(--missing); }
 .grid-of-shares table, .hour-prices table { width: 100%; }
 .hour-prices b { color: var(--text); }
 summary { cursor: pointer; font-size: .875rem; color: var(--link); }
-.refused {
-  max-width: 80ch; margin: 1.25rem 0; padding: .25rem 1.25rem;
-  border-left: 4px solid var(--missing); background: var(--ground);
+.notice {
+  max-width: 80ch; margin: 1.25rem 0; padding: .25rem 1.25rem; background: var(--ground);
+  border: 1px solid var(--missing); border-left-width: 6px;
 }
+.notice p { margin: .6rem 0; }
 footer {
   margin-top: 3rem; padding-top: .75rem; border-top: 1px solid var(--rule); color: var(--quiet);
   font-size: .875rem;
 }
-@page { size: A4 landscape; margin: 12mm; }
+@page {
+  size: A4 landscape; margin: 12mm 12mm 15mm;
+  font: 8pt system-ui, -apple-system, "Segoe UI", Roboto, sans-serif; color: #333333;
+  @bottom-right { content: "page " counter(page) " of " counter(pages); }
+}
 @media print {
   :root {
     --page: #ffffff; --text: #000000; --quiet: #333333; --rule: #aaaaaa; --ground: #f2f2f2;
@@ -143,6 +151,7 @@ footer {
   }
   html { font-size: 9.5pt; }
   body { max-width: none; padding: 0; }
+  p, .notice { max-width: 115ch; }
   .skip, nav { display: none; }
   a { text-decoration: none; }
   section { margin-top: 1.1rem; }
@@ -154,9 +163,14 @@ footer {
   .hour-prices th, .hour-prices td { padding-block: 0; border-bottom: 0; }
   thead { display: table-header-group; }
   tfoot { display: table-row-group; }
-  tr, figure, li, dl.totals { break-inside: avoid; }
+  tr, figure, li, p, dl.totals { break-inside: avoid; }
+  p + .grid-of-shares, p + .grid-of-hours { break-before: avoid; }
   tfoot tr { break-before: avoid; }
-  #areas table, table.dense { break-inside: avoid; }
+  #areas table, table.dense, table.together, .notice, #letters { break-inside: avoid; }
+  tr.on-paper { display: table-row; }
+  tr.on-paper th { text-align: left; border: 0; color: var(--text); }
+  table.shares caption, .hour-prices caption { display: none; }
+  caption { position: static; max-width: none; }
   .wide { overflow: visible; }
   tbody th, tfoot th { position: static; }
   .charts { grid-template-columns: 1fr 1fr; }

@@ -3,7 +3,7 @@ words. Whole-number arithmetic only, so that what is written is exactly the numb
 
 import datetime
 
-TENTHS_OF_A_CENT_AND_LESS = 4  # the places of a market price, which is in $0.0001
+MARKET_PRICE_PLACES = 4  # a market price is in $0.0001
 CENTS = 2
 THOUSANDTHS = 3
 
@@ -38,7 +38,7 @@ def dollars(cents):
 
 def market_price(value):
     """A price a MWh, from units of $0.0001."""
-    return with_places(value, TENTHS_OF_A_CENT_AND_LESS)
+    return with_places(value, MARKET_PRICE_PLACES)
 
 
 def market_dollars(value):
@@ -104,6 +104,11 @@ def listed_runs(numbers):
 def counted(count, name):
     """1 hour, 2 hours."""
     return "%d %s%s" % (count, name, "" if count == 1 else "s")
+
+
+def hours_ending(endings):
+    """hour ending 4; hours ending 4 and 7 to 22."""
+    return "hour%s ending %s" % ("" if len(endings) == 1 else "s", listed_runs(endings))
 
 
 def date_of(trading_day):

@@ -648,33 +648,51 @@ fn show_settled(file: &[u8], statement: &[i64]) -> bool
 
 fn show_field(field: Field) -> bool {
     match field {
-        Field::Edition => show::text(b"edition"),
-        Field::TradingDay => show::text(b"trading day"),
-        Field::Areas => show::text(b"areas"),
-        Field::PeakWord => show::text(b"peak word"),
-        Field::AreaNumber => show::text(b"area number"),
-        Field::FirstWord => show::text(b"first word"),
-        Field::Words => show::text(b"words"),
-        Field::Kind => show::text(b"kind"),
-        Field::Flag => show::text(b"flag"),
-        Field::PersistentDays => show::text(b"persistent days"),
-        Field::HubPriceA => show::text(b"hub price A"),
-        Field::HubPriceB => show::text(b"hub price B"),
-        Field::LoadPoints => show::text(b"load points"),
-        Field::Coordinators => show::text(b"coordinators"),
-        Field::Coordinator { which: _ } => show::text(b"coordinator"),
-        Field::UpwardEnergy => show::text(b"upward energy"),
-        Field::RegulationUp => show::text(b"regulation up"),
-        Field::Spin => show::text(b"spin"),
-        Field::NonSpin => show::text(b"non-spin"),
-        Field::DownwardEnergy => show::text(b"downward energy"),
-        Field::RegulationDown => show::text(b"regulation down"),
-        Field::Requirement => show::text(b"requirement"),
-        Field::Mec => show::text(b"MEC"),
-        Field::IntervalQuantity { which: _ } => show::text(b"interval quantity"),
-        Field::IntervalPrice { which: _ } => show::text(b"interval price"),
-        Field::Demand { which: _ } => show::text(b"demand"),
-        Field::Nowhere => show::text(b"nowhere"),
+        Field::Edition => show::field(b"edition"),
+        Field::TradingDay => show::field(b"trading day"),
+        Field::Areas => show::field(b"areas"),
+        Field::PeakWord => show::field(b"peak word"),
+        Field::AreaNumber => show::field(b"area number"),
+        Field::FirstWord => show::field(b"first word"),
+        Field::Words => show::field(b"words"),
+        _ => show_body_field(field),
+    }
+}
+
+fn show_body_field(field: Field) -> bool {
+    match field {
+        Field::Kind => show::field(b"kind"),
+        Field::Flag => show::field(b"flag"),
+        Field::PersistentDays => show::field(b"persistent days"),
+        Field::HubPriceA => show::field(b"hub price A"),
+        Field::HubPriceB => show::field(b"hub price B"),
+        Field::LoadPoints => show::field(b"load points"),
+        Field::Coordinators => show::field(b"coordinators"),
+        Field::Coordinator { which: _ } => show::field(b"coordinator"),
+        _ => show_number_field(field),
+    }
+}
+
+fn show_number_field(field: Field) -> bool {
+    match field {
+        Field::UpwardEnergy => show::field(b"upward energy"),
+        Field::RegulationUp => show::field(b"regulation up"),
+        Field::Spin => show::field(b"spin"),
+        Field::NonSpin => show::field(b"non-spin"),
+        Field::DownwardEnergy => show::field(b"downward energy"),
+        Field::RegulationDown => show::field(b"regulation down"),
+        Field::Requirement => show::field(b"requirement"),
+        Field::Mec => show::field(b"MEC"),
+        _ => show_counted_field(field),
+    }
+}
+
+fn show_counted_field(field: Field) -> bool {
+    match field {
+        Field::IntervalQuantity { which: _ } => show::field(b"interval quantity"),
+        Field::IntervalPrice { which: _ } => show::field(b"interval price"),
+        Field::Demand { which: _ } => show::field(b"demand"),
+        _ => show::field(b"nowhere"),
     }
 }
 
@@ -780,7 +798,6 @@ fn show_placed(file: &[u8], number: u32, at: usize, place: Place) -> bool {
         & show::count_field(place.entry)
         & show::signed_word_field(words::signed(entry_number(file, place.entry)))
         & show::count_field(place.hour)
-        & show::field(b"")
         & show_field(field)
         & show::count_field(which(field))
         & show::signed_word_field(words::signed(locating::word(file, at)))

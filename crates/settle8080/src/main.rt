@@ -7,14 +7,6 @@ ghost use Prim.Native.Nat.{_≤_};
 ghost use Rattle.limits.specs.Ranges.{mostCoordinators};
 ghost use Rattle.limits.specs.Editions.{mostAreas};
 
-// Word i of some bytes. An accepted file is not asked for a word past its end.
-fn word(bytes: &[u8], i: usize) -> u32 {
-    if bytes.len() / 4 <= i {
-        return 0;
-    }
-    words::word(bytes, i)
-}
-
 // A word that says how many there are. An accepted file says no more than `most`.
 fn count(word: u32, most: u32) -> usize
     ensures { λ r. ⌜ r ≤ most ⌝ }
@@ -29,7 +21,7 @@ fn count(word: u32, most: u32) -> usize
 fn coordinators(body: &[u8]) -> usize
     ensures { λ r. ⌜ r ≤ mostCoordinators ⌝ }
 {
-    count(word(body, 6), limits::MOST_COORDINATORS as u32)
+    count(locating::word(body, 6), limits::MOST_COORDINATORS as u32)
 }
 
 // What is printed: whether all of it was written, and the sum of its charges.
@@ -48,9 +40,9 @@ fn show_refusal(answer: Verdict) -> bool {
 
 fn show_head(file: &[u8]) -> bool {
     show::text(b"8080 ")
-        & show::unsigned(word(file, 1) as u64)
+        & show::unsigned(locating::word(file, 1) as u64)
         & show::space()
-        & show::unsigned(word(file, 2) as u64)
+        & show::unsigned(locating::word(file, 2) as u64)
         & show::end()
 }
 
@@ -85,7 +77,7 @@ fn with_hour(before: Printed, area: u32, body: &[u8], hour: usize, charges: &[i6
     let mut printed = before;
     let mut i: usize = 0;
     while i < n {
-        let coordinator = word(body, 7 + i);
+        let coordinator = locating::word(body, 7 + i);
         let charge = reading::number(charges, i);
         printed = with_charge(printed, area, coordinator, hour, charge);
         i += 1;
@@ -111,8 +103,8 @@ fn with_area(before: Printed, area: u32, body: &[u8], block: &[i64]) -> Printed 
 fn body_at(file: &[u8], k: usize) -> &[u8]
     requires { ⌜ k ≤ mostAreas ⌝ }
 {
-    let from = 4 * (word(file, 5 + 3 * k) as usize);
-    let to = from + 4 * (word(file, 6 + 3 * k) as usize);
+    let from = 4 * (locating::word(file, 5 + 3 * k) as usize);
+    let to = from + 4 * (locating::word(file, 6 + 3 * k) as usize);
     if file.len() < to {
         return &file[..0];
     }
@@ -120,7 +112,7 @@ fn body_at(file: &[u8], k: usize) -> &[u8]
 }
 
 fn show_charges(file: &[u8], statement: &[i64]) -> Printed {
-    let n = count(word(file, 2), limits::MOST_AREAS as u32);
+    let n = count(locating::word(file, 2), limits::MOST_AREAS as u32);
     let mut printed = Printed {
         written: true,
         total: 0,
@@ -128,7 +120,7 @@ fn show_charges(file: &[u8], statement: &[i64]) -> Printed {
     let mut at: usize = 0;
     let mut k: usize = 0;
     while k < n {
-        let area = word(file, 4 + 3 * k);
+        let area = locating::word(file, 4 + 3 * k);
         let body = body_at(file, k);
         printed = with_area(printed, area, body, reading::part(statement, at));
         at += statement::area_numbers(coordinators(body));

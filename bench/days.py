@@ -9,6 +9,9 @@ passing    8 areas, CISO with 64 coordinators, 2 load points, failures in one ho
 smallest   one area with one coordinator and one load point, no failure
 refused    the full day, its last word broken
 areas-N    N areas of one coordinator, 2 load points, failures in every hour
+missing-R  the 8 areas, five of a hundred prices missing, at random
+missing-4  the 8 areas, every fourth price missing, which is as many as may be
+high       the 8 areas, every price at least $1,700, beyond what a glance tells
 ciso-K     one CISO area of K coordinators, 2 load points, failures in every hour
 
 full.book  a month book of the full day under each date of May
@@ -31,15 +34,39 @@ def ciso(count):
     return (1, 2, count)
 
 
-def day_of(seed, shapes, failing):
-    """A day of these shapes (kind, L, K), with failures in so many of a hundred hours."""
+def as_drawn(pairs):
+    return pairs
+
+
+def five_missing(pairs):
+    """Five of a hundred prices missing, at random, and no more than may be."""
+    rng = random.Random(repr(pairs))
+    left = len(pairs) // 4
+    taken = []
+    for quantity, price in pairs:
+        gone = left > 0 and rng.randrange(100) < 5
+        left -= gone
+        taken.append((quantity, days.MISSING if gone else price))
+    return taken
+
+
+def fourth_missing(pairs):
+    return [(quantity, days.MISSING if i % 4 == 3 else price) for i, (quantity, price) in enumerate(pairs)]
+
+
+def high(pairs):
+    return [(quantity, 17000000 + abs(price)) for quantity, price in pairs]
+
+
+def day_of(seed, shapes, failing, intervals=as_drawn):
+    """A day of these shapes (kind, L, K), with failures in so many of a hundred hours, and what `intervals` makes of the drawn ones."""
     rng = random.Random(seed)
     areas = []
     for number, (kind, points, count) in enumerate(shapes):
         hours = []
         for _ in range(24):
             pairs = [(rng.randrange(1, 500000), rng.randrange(-50000, 2000000)) for _ in range(12 * points)]
-            hour = days.Hour(pairs, [rng.randrange(1, 1500000) for _ in range(count)])
+            hour = days.Hour(intervals(pairs), [rng.randrange(1, 1500000) for _ in range(count)])
             hour.requirement = 600000
             hour.mec = -rng.randrange(1, 400000)
             if rng.randrange(100) < failing:
@@ -75,6 +102,8 @@ def all_files():
     yield "refused.day", broken(full)
     for count in range(1, 9):
         yield "areas-%d.day" % count, day_of(3, count * [OTHER], 100)
+    for name, intervals in (("missing-R", five_missing), ("missing-4", fourth_missing), ("high", high)):
+        yield name + ".day", day_of(3, 8 * [OTHER], 100, intervals)
     for count in (1, 2, 4, 8, 16, 32, 64):
         yield "ciso-%d.day" % count, day_of(4, [ciso(count)], 100)
 

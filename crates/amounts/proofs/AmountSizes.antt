@@ -11,7 +11,7 @@ use mir.Val.{SFits, toZ, ofZ}
 use mir.ValLaws.{toZ-ofZ}
 use Rattle.exact.proofs.Magnitude.{abs-add}
 use Rattle.exact.proofs.Machine.{within}
-use Rattle.limits.specs.Ranges.{dayHours, mostMarketPrice, mostAmount, plainPoints}
+use Rattle.limits.specs.Ranges.{dayHours, mostMarketPrice, mostAmount, provedPoints}
 use Rattle.body.specs.Layout.{flagOf, hourAt}
 use Rattle.body.specs.Kept.{Sound}
 use Rattle.body.proofs.Kept.{always}
@@ -23,7 +23,7 @@ use Rattle.amounts.specs.declared.Amounts.{Amounts}
 use Rattle.amounts.specs.Ranges.{AmountsRanged}
 use Rattle.amounts.specs.Amounts.{upwardAt, tierAt, dayTier, dayUpward, daySurcharge, hourPrice, priceFrom, onPeakAtPrice, offPeakAtPrice}
 use Rattle.amounts.specs.Amounts.{onPeakAmount, offPeakAmount, downwardAmount, surchargeHour, surchargeAt, creditAtPrice, creditAt, amountAt}
-use Rattle.amounts.specs.Amounts.{amountsOf}
+use Rattle.amounts.specs.Amounts.{priceNeeded, neededPrice, amountsOf}
 use Rattle.surcharge.proofs.Sizes.{mostOnPeakAmount, mostOffPeakAmount, mostDownwardAmount, on-peak-small, off-peak-small, downward-small}
 use Rattle.surcharge.proofs.Sizes.{surcharge-small, surcharge-in-cents-small, credit-in-cents-small}
 use Rattle.amounts.proofs.Quantities as Q
@@ -41,12 +41,16 @@ where-made : (m : ℕ) (t : Bool) (z : ℤ) → natAbs z ≤ m → natAbs (cond 
 where-made m true z h = h
 where-made m false z h = zero-le
 
-module _ (body : List ℕ) (sound : Sound plainPoints body) (h : ℕ) (below : h < dayHours) where
+module _ (body : List ℕ) (sound : Sound provedPoints body) (h : ℕ) (below : h < dayHours) where
   price-small : natAbs (hourPrice body h) ≤ mostMarketPrice
   unfolding priceFrom
   price-small = price-within _ _ (pairs-ranged body sound h below .ranged)
 
   module _ (terms : Terms) where
+    pub needed-small : natAbs (neededPrice terms body h) ≤ mostMarketPrice
+    unfolding neededPrice
+    needed-small = where-made mostMarketPrice (priceNeeded terms body h) _ price-small
+
     pub down-small : natAbs (downwardAmount terms body h) ≤ mostDownwardAmount
     unfolding downwardAmount
     down-small =
@@ -107,7 +111,7 @@ module _ (terms : Terms) (body : List ℕ) (h : ℕ) (amounts : Amounts) (is : a
   unfolding amountsOf amountAt
   amount-is a e = e ∙ ap (λ m. (m .on .0 +ℤ m .off .0) +ℤ m .down .0) is
 
-  pub amounts-ranged : Sound plainPoints body → h < dayHours → TermsKept terms → AmountsRanged amounts
+  pub amounts-ranged : Sound provedPoints body → h < dayHours → TermsKept terms → AmountsRanged amounts
   unfolding amountsOf
   amounts-ranged sound below kept =
       rw is

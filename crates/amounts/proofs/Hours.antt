@@ -9,17 +9,18 @@ use native.Mathlib.Omega.{arith}
 use lib.IntN.{natAbs}
 use lib.Signed.{ltZ}
 use Rattle.words.proofs.Part.{word-part}
-use Rattle.limits.specs.Ranges.{dayHours, mostHubPrice, mostUpward, plainPoints}
+use Rattle.limits.specs.Ranges.{dayHours, mostHubPrice, mostUpward, provedPoints}
 use Rattle.body.specs.Layout.{hourAt, intervalsAt, pointsOf, quantityAt, priceAt, hubPriceA, hubPriceB}
 use Rattle.body.specs.Kept.{Sound}
 use Rattle.body.proofs.Kept.{always, hour-inside}
 use Rattle.price.specs.Price.{quantityOf, priceOf}
 use Rattle.price.specs.Ranged.{Ranged}
+use Rattle.surcharge.specs.declared.Day.{Day}
 use Rattle.surcharge.specs.declared.Terms.{Terms}
 use Rattle.surcharge.specs.Surcharge.{peakHour}
 use Rattle.surcharge.proofs.Sizes.{pick}
 use Rattle.amounts.specs.Amounts.{highest, upwardFrom, upwardAt, tierAt, hourFacts, hubPrice, pairsFrom}
-use Rattle.amounts.specs.Ranges.{HourRanged, PairsRanged}
+use Rattle.amounts.specs.Ranges.{HourRanged, PairsRanged, AtHour}
 use Rattle.amounts.proofs.Quantities.{upward-small}
 
 below-max : (m a b : ℕ) → a ≤ m → b ≤ m → max a b ≤ m
@@ -53,10 +54,10 @@ unfolding hourFacts tierAt
 hour-tier true body h = refl
 hour-tier false body h = refl
 
-module _ (body : List ℕ) (sound : Sound plainPoints body) where
+module _ (body : List ℕ) (sound : Sound provedPoints body) where
   module _ (h : ℕ) (below : h < dayHours) where
     pub hour-ranged : HourRanged body (hourAt body h)
-    hour-ranged = record { room = omega (arith, hour-inside plainPoints body sound h below); deficiency = λ i p. sound .deficiency h i below p always }
+    hour-ranged = record { room = omega (arith, hour-inside provedPoints body sound h below); deficiency = λ i p. sound .deficiency h i below p always }
 
     part : List ℕ
     part = pairsFrom body (intervalsAt body h)
@@ -79,7 +80,7 @@ module _ (body : List ℕ) (sound : Sound plainPoints body) where
     pub pairs-ranged : PairsRanged body (pointsOf body) (intervalsAt body h)
     unfolding part
     pairs-ranged =
-        record { load-is = refl; few = sound .points always .1; room = omega (arith, hour-inside plainPoints body sound h below); ranged = ranged }
+        record { load-is = refl; few = sound .points always .1; room = omega (arith, hour-inside provedPoints body sound h below); ranged = ranged }
 
   -- M is at most 10,000 MW
   pub most-small : (terms : Terms) → highest terms (upwardAt body) dayHours ≤ mostUpward
@@ -88,3 +89,11 @@ module _ (body : List ℕ) (sound : Sound plainPoints body) where
   pub hub-small : natAbs (hubPrice body) ≤ mostHubPrice
   unfolding hubPrice
   hub-small = pick mostHubPrice (ltZ (hubPriceA body) (hubPriceB body)) _ _ (sound .hub-b always) (sound .hub-a always)
+
+-- the hour that starts at word `at`
+module _ {terms : Terms} {day : Day} {body : List ℕ} {h at : ℕ} (k : AtHour terms day body h at) where
+  pub hour-there : HourRanged body at
+  hour-there = rw (k .here) (hour-ranged body (k .sound) h (k .below))
+
+  pub pairs-there : PairsRanged body (pointsOf body) (at + 8)
+  pairs-there = rw (k .here) (pairs-ranged body (k .sound) h (k .below))

@@ -3,3 +3,4 @@ pub mod Hours
 pub mod HourAmounts
 pub mod AmountSizes
 pub mod Prices
+pub mod PlainPrices

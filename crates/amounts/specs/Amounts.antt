@@ -109,6 +109,10 @@ module _ (terms : Terms) (body : List ℕ) where
   unfoldable pub priceNeeded : ℕ → Bool
   priceNeeded h = needsPrice (flagOf body) (peakHour terms h) dayTier (tierAt body h)
 
+  -- the price of hour h where an amount asks for it, 0 where none does
+  unfoldable pub neededPrice : ℕ → ℤ
+  neededPrice h = cond (priceNeeded h) (hourPrice body h) (pos 0)
+
 -- ---- what a price that is needed must keep
 
 -- whether a price that is needed, of L load points, can be settled with: not "with fewer than 9L present of its 12L" and, after that, not where it "has no
@@ -136,10 +140,6 @@ hourFacts counts body at =
     cond counts
     (record { upward = record { 0 = upwardFrom body at }; tier = tierOf (upwardFrom body at) (wordAt body (at + 6)) })
     (record { upward = record { 0 = 0 }; tier = 0 })
-
--- the price of the pairs that start at word `from`, where it is asked for
-unfoldable pub priceIf : Bool → List ℕ → ℕ → ℤ
-priceIf asked body from = cond asked (answerPrice (priceFrom body from)) (pos 0)
 
 unfoldable pub amountsOf : Terms → List ℕ → ℕ → Amounts
 amountsOf terms body h =

@@ -5,7 +5,7 @@ use mathlib.Core.Path.{_≡_}
 use lib.IntN.{natAbs}
 use lib.ListN.{length}
 use Rattle.words.specs.Word.{wordAt}
-use Rattle.limits.specs.Ranges.{dayHours, mostAmount, plainPoints}
+use Rattle.limits.specs.Ranges.{dayHours, mostAmount, provedPoints}
 use Rattle.hour.specs.Kept.{DeficiencyKept}
 use Rattle.body.specs.Layout.{pointsOf, hourAt}
 use Rattle.body.specs.Kept.{Sound}
@@ -24,14 +24,14 @@ pub record HourRanged (body : List ℕ) (at : ℕ) : Type 0 where
 -- the pairs of `load` load points that start at word `from`
 pub record PairsRanged (body : List ℕ) (load from : ℕ) : Type 0 where
   pub load-is : load ≡ pointsOf body
-  pub few : load ≤ plainPoints
+  pub few : load ≤ provedPoints
   pub room : 4 * from + 96 * load ≤ length body
   pub ranged : Ranged (pairsFrom body from) (12 * pointsOf body)
 
 -- `at` is where hour h of a sound body starts, and `day` has the facts of its day under these terms
 pub record AtHour (terms : Terms) (day : Day) (body : List ℕ) (h at : ℕ) : Type 0 where
   pub kept : TermsKept terms
-  pub sound : Sound plainPoints body
+  pub sound : Sound provedPoints body
   pub below : h < dayHours
   pub here : at ≡ hourAt body h
   pub facts : day ≡ dayFacts terms body

@@ -12,12 +12,12 @@ ghost use Prim.Native.Nat.{_+_, _*_, _≤_, _<_, max};
 ghost use lib.IntN.{_+ℤ_};
 ghost use lib.ListN.{length};
 ghost use Rattle.words.specs.Word.{wordAt, signedOf};
-ghost use Rattle.limits.specs.Ranges.{plainPoints};
+ghost use Rattle.limits.specs.Ranges.{provedPoints};
 ghost use Rattle.body.specs.Kept.{Sound};
 ghost use Rattle.surcharge.specs.Ranges.{TermsKept};
 ghost use Rattle.surcharge.specs.Surcharge.{downwardOf};
 ghost use Rattle.amounts.specs.Amounts.{upwardFrom, downwardFrom, hourFacts, dayFacts, amountsOf, dayTier, dayUpward, hubPrice, priceFrom};
-ghost use Rattle.amounts.specs.Amounts.{priceIf, usableRule, priceRule};
+ghost use Rattle.amounts.specs.Amounts.{priceNeeded, neededPrice, usableRule, priceRule};
 ghost use Rattle.amounts.specs.Ranges.{HourRanged, PairsRanged, AtHour, AmountsRanged};
 
 // U and the tier of an hour.
@@ -83,7 +83,7 @@ fn larger(a: u32, b: u32) -> u32
 
 // The highest U and the highest tier of the peak hours.
 fn highest_hour(terms: Terms, body: &[u8]) -> Hour
-    requires { ⌜ Sound plainPoints (now body) ⌝ }
+    requires { ⌜ Sound provedPoints (now body) ⌝ }
     ensures { λ r. ⌜ (r .upward .0 ≡ dayUpward terms (now (body .entry))) × (r .tier ≡ dayTier terms (now (body .entry))) ⌝ }
 {
     let load = words::word(body, 5) as usize;
@@ -117,7 +117,7 @@ pub fn hub_price(body: &[u8]) -> HubPrice
 
 // The facts of an area's day under its terms.
 pub fn day_facts(terms: Terms, body: &[u8]) -> Day
-    requires { ⌜ (TermsKept terms) × (Sound plainPoints (now body)) ⌝ }
+    requires { ⌜ (TermsKept terms) × (Sound provedPoints (now body)) ⌝ }
     ensures { λ r. ⌜ r ≡ dayFacts terms (now (body .entry)) ⌝ }
 {
     let highest = highest_hour(terms, body);
@@ -135,15 +135,26 @@ pub fn hour_price(body: &[u8], load: usize, from: usize) -> PriceAnswer
     price::average_price(&body[start..end], 12 * load)
 }
 
-// That price where it is asked for, and 0 where no amount asks for it.
-fn price_if(asked: bool, body: &[u8], load: usize, from: usize) -> MarketPrice
-    requires { ⌜ PairsRanged (now body) load from ⌝ }
-    ensures { λ r. ⌜ r .0 ≡ priceIf asked (now (body .entry)) from ⌝ }
+// Whether an amount of hour h, which starts at word `at`, asks for the hour's price.
+fn price_asked(terms: Terms, day: Day, body: &[u8], h: usize, at: usize) -> bool
+    requires { ⌜ AtHour terms day (now body) h at ⌝ }
+    ensures { λ r. ⌜ r ≡ priceNeeded terms (now (body .entry)) h ⌝ }
 {
-    if !asked {
+    let facts = hour_facts(true, body, at);
+    let peak = surcharge::peak_hour(terms, h);
+    surcharge::price_needed(words::word(body, 1), peak, day.tier, facts.tier)
+}
+
+// The price of hour h, which starts at word `at`, where an amount asks for it, and 0 where none does.
+pub fn needed_price(terms: Terms, day: Day, body: &[u8], h: usize, at: usize) -> MarketPrice
+    requires { ⌜ AtHour terms day (now body) h at ⌝ }
+    ensures { λ r. ⌜ r .0 ≡ neededPrice terms (now (body .entry)) h ⌝ }
+{
+    if !price_asked(terms, day, body, h, at) {
         return MarketPrice(0);
     }
-    MarketPrice(price::price_of(hour_price(body, load, from)))
+    let load = words::word(body, 5) as usize;
+    MarketPrice(price::price_of(hour_price(body, load, at + 8)))
 }
 
 fn down_amount(terms: Terms, body: &[u8], at: usize) -> Cents
@@ -154,9 +165,17 @@ fn down_amount(terms: Terms, body: &[u8], at: usize) -> Cents
     surcharge::downward(terms, downward_quantity(body, at), mec)
 }
 
-// The amounts of hour h, which starts at word `at`. `day` has the facts of the area's day.
-pub fn hour_amounts(terms: Terms, day: Day, body: &[u8], h: usize, at: usize) -> Amounts
+// The amounts of hour h, which starts at word `at`, at its price. `day` has the facts of the area's day.
+pub fn hour_amounts(
+    terms: Terms,
+    day: Day,
+    price: MarketPrice,
+    body: &[u8],
+    h: usize,
+    at: usize,
+) -> Amounts
     requires { ⌜ AtHour terms day (now body) h at ⌝ }
+    requires { ⌜ price .0 ≡ neededPrice terms (now body) h ⌝ }
     ensures { λ r. ⌜ r ≡ amountsOf terms (now (body .entry)) h ⌝ }
 {
     let flag = words::word(body, 1);
@@ -173,15 +192,7 @@ pub fn hour_amounts(terms: Terms, day: Day, body: &[u8], h: usize, at: usize) ->
     let facts = hour_facts(true, body, at);
     let upward = facts.upward;
     let tier = facts.tier;
-    let in_peak = surcharge::peak_hour(terms, h);
-    let load = words::word(body, 5) as usize;
-    let price = price_if(
-        surcharge::price_needed(flag, in_peak, day.tier, tier),
-        body,
-        load,
-        at + 8,
-    );
-    if in_peak {
+    if surcharge::peak_hour(terms, h) {
         let on_peak = surcharge::on_peak(day, tier, price);
         let on = on_peak.amount;
         let surcharge = day.shown;
@@ -216,7 +227,7 @@ pub fn amount_of(amounts: Amounts) -> Cents
 
 // Whether a needed price of `load` load points can be settled with. Its first interval word is at `place` of the file.
 fn usable(place: usize, load: usize, answer: PriceAnswer) -> Verdict
-    requires { ⌜ load ≤ plainPoints ⌝ }
+    requires { ⌜ load ≤ provedPoints ⌝ }
     ensures { λ r. ⌜ r ≡ usableRule place load answer ⌝ }
 {
     if (price::count_of(answer) as usize) < limits::LEAST_PRESENT * load {
@@ -240,14 +251,7 @@ pub fn check_price(
     requires { ⌜ (AtHour terms day (now body) h at) × (start < 4294967296) ⌝ }
     ensures { λ r. ⌜ r ≡ priceRule terms start (now (body .entry)) h ⌝ }
 {
-    let facts = hour_facts(true, body, at);
-    let needed = surcharge::price_needed(
-        words::word(body, 1),
-        surcharge::peak_hour(terms, h),
-        day.tier,
-        facts.tier,
-    );
-    if !needed {
+    if !price_asked(terms, day, body, h, at) {
         return Verdict::Accepted;
     }
     let load = words::word(body, 5) as usize;

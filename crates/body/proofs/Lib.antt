@@ -1,3 +1,4 @@
 pub mod Rules
 pub mod HourPlaces
 pub mod Kept
+pub mod PlainHours

@@ -1,13 +1,19 @@
-// The check of one area's body: its head, its coordinators and its 24 hours, word by word, and the first that breaks its rule.
+// The check of one area's body: its head, its coordinators and its 24 hours, word by word, the first that breaks its rule, and whether the area is plain.
+use hour::Told;
 use limits::Limits;
 use verdict::Verdict;
+ghost use mathlib.Core.Bool.{false, _&&_};
 ghost use mathlib.Core.Path.{_≡_};
 ghost use Prim.Native.Nat.{_+_, _*_, _/_, _≤_, _<_, _^_};
+ghost use lib.Dec.{eqb};
 ghost use lib.ListN.{length};
+ghost use Rattle.verdict.specs.Verdict.{numberOf};
+ghost use Rattle.limits.specs.Ranges.{dayHours, provedPoints};
 ghost use Rattle.hour.specs.Layout.{hourWords};
 ghost use Rattle.body.specs.Layout.{bodyWords, hourStart};
 ghost use Rattle.body.specs.Check.{bodyHeadRule, mostOfKind, coordinatorCountRule, coordinatorRule, coordinatorsRule, hoursRule, bodyHeadOf};
 ghost use Rattle.body.specs.Check.{frontRule, bodyRule};
+ghost use Rattle.body.specs.Plain.{plainHours, plainArea, Behind};
 
 // The first six words of the head, the hub prices A and B by their magnitude.
 fn head_words(
@@ -125,21 +131,70 @@ pub fn next_hour(load: usize, count: usize, h: usize, at: usize) -> usize
     at + (8 + 24 * load + count)
 }
 
-fn hours(start: usize, body: &[u8], load: usize, count: usize) -> Verdict
-    requires { ⌜ (start < 4294967296) × ((count < 4294967296) × (4 * bodyWords load count ≤ length (now body))) ⌝ }
-    ensures { λ r. ⌜ r ≡ hoursRule start (now (body .entry)) load count ⌝ }
+// A body of which a word breaks its rule.
+fn refused(answer: Verdict) -> Told
+    ensures { λ r. ⌜ (r .answer ≡ answer) × (r .plain ≡ false) ⌝ }
+{
+    Told {
+        answer,
+        plain: false,
+    }
+}
+
+// An hour, and where it starts.
+struct Reached {
+    hour: usize,
+    at: usize,
+}
+
+// The first hour that is not seen at a glance to be accepted and plain; behind the last where all are.
+fn glance_hours(kind: u32, body: &[u8], load: usize, count: usize) -> Reached
+    requires { ⌜ (count < 4294967296) × (4 * bodyWords load count ≤ length (now body)) ⌝ }
+    ensures { λ r. ⌜ Behind (now (body .entry)) kind load count (r .hour) (r .at) ⌝ }
 {
     let mut at = first_hour(load, count);
     let mut h: usize = 0;
     while h < limits::DAY_HOURS {
-        let v = hour::check(start, body, load, count, at);
-        if verdict::number(v) != 0 {
-            return v;
+        if !hour_glance::glance(kind, body, load, count, at) {
+            return Reached { hour: h, at };
         }
         at = next_hour(load, count, h, at);
         h += 1;
     }
-    Verdict::Accepted
+    Reached { hour: h, at }
+}
+
+// The hours from that one on.
+fn hours_from(
+    first: Reached,
+    start: usize,
+    kind: u32,
+    body: &[u8],
+    load: usize,
+    count: usize,
+) -> Told
+    requires { ⌜ Behind (now body) kind load count (first .hour) (first .at) ⌝ }
+    requires { ⌜ (load ≤ provedPoints) × ((start < 4294967296) × ((count < 4294967296) × (4 * bodyWords load count ≤ length (now body)))) ⌝ }
+    ensures { λ r. ⌜ r .answer ≡ hoursRule start (now (body .entry)) load count ⌝ }
+    ensures { λ r. ⌜ r .plain ≡ (eqb (numberOf (r .answer)) 0 && plainHours (now (body .entry)) kind load count dayHours) ⌝ }
+{
+    let mut plain = true;
+    let mut at = first.at;
+    let mut h = first.hour;
+    while h < limits::DAY_HOURS {
+        let seen = hour::check(start, kind, body, load, count, at);
+        let answer = seen.answer;
+        if verdict::number(answer) != 0 {
+            return refused(answer);
+        }
+        plain = plain & seen.plain;
+        at = next_hour(load, count, h, at);
+        h += 1;
+    }
+    Told {
+        answer: Verdict::Accepted,
+        plain,
+    }
 }
 
 fn head(points: u32, ciso: u32, start: usize, body: &[u8]) -> Verdict
@@ -170,20 +225,23 @@ fn front(points: u32, ciso: u32, start: usize, body: &[u8]) -> Verdict
     count(start, body.len() / 4, most, load, k)
 }
 
-// The first word of a body that breaks its rule. `ciso` CISO areas stand before this one in the file.
-pub fn check(limits: Limits, ciso: u32, start: usize, body: &[u8]) -> Verdict
-    requires { ⌜ (ciso ≤ 1) × ((start < 4294967296) × (28 ≤ length (now body))) ⌝ }
-    ensures { λ r. ⌜ r ≡ bodyRule start (now (body .entry)) limits ciso ⌝ }
+// The first word of a body that breaks its rule, and whether the area is plain. `ciso` CISO areas stand before this one in the file.
+pub fn check(limits: Limits, ciso: u32, start: usize, body: &[u8]) -> Told
+    requires { ⌜ (limits .points ≤ provedPoints) × ((ciso ≤ 1) × ((start < 4294967296) × (28 ≤ length (now body)))) ⌝ }
+    ensures { λ r. ⌜ r .answer ≡ bodyRule start (now (body .entry)) limits ciso ⌝ }
+    ensures { λ r. ⌜ r .plain ≡ (eqb (numberOf (r .answer)) 0 && plainArea (now (body .entry))) ⌝ }
 {
     let first = front(limits.points, ciso, start, body);
     if verdict::number(first) != 0 {
-        return first;
+        return refused(first);
     }
+    let kind = words::word(body, 0);
     let load = words::word(body, 5) as usize;
     let k = words::word(body, 6) as usize;
     let second = coordinators(start, body, k);
     if verdict::number(second) != 0 {
-        return second;
+        return refused(second);
     }
-    hours(start, body, load, k)
+    let first = glance_hours(kind, body, load, k);
+    hours_from(first, start, kind, body, load, k)
 }

@@ -4,7 +4,7 @@ use mathlib.Core.List.{List}
 use mathlib.Core.Path.{_≡_, ap}
 use native.Mathlib.Omega.{arith}
 use lib.IntN.{natAbs, _+ℤ_}
-use Rattle.limits.specs.Ranges.{dayHours, plainPoints}
+use Rattle.limits.specs.Ranges.{dayHours, provedPoints}
 use Rattle.body.specs.Kept.{Sound}
 use Rattle.surcharge.specs.declared.Terms.{Terms}
 use Rattle.surcharge.specs.Ranges.{TermsKept}
@@ -24,7 +24,7 @@ module _ (terms : Terms) (body : List ℕ) (h : ℕ) where
     unfolding amountsOf amountIn
     downward-is = ap (λ m. m .down .0) is
 
-  pub direction-small : Sound plainPoints body → h < dayHours → TermsKept terms → (direction : Direction)
+  pub direction-small : Sound provedPoints body → h < dayHours → TermsKept terms → (direction : Direction)
       → natAbs (amountIn terms body h direction) ≤ mostOnPeakAmount
   unfolding amountIn
   direction-small sound below kept Upward = upward-small body sound h below terms kept

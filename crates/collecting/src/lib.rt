@@ -8,7 +8,7 @@ ghost use Prim.Native.Nat.{_≤_};
 ghost use lib.Dec.{eqb};
 ghost use lib.IntN.{_+ℤ_};
 ghost use lib.ListN.{length, drop};
-ghost use Rattle.limits.specs.Ranges.{dayHours, dayPayments, plainPoints};
+ghost use Rattle.limits.specs.Ranges.{dayHours, dayPayments, provedPoints};
 ghost use Rattle.body.specs.Kept.{Sound};
 ghost use Rattle.surcharge.specs.Ranges.{TermsKept};
 ghost use Rattle.amounts.specs.Ranges.{AmountsRanged};
@@ -27,7 +27,7 @@ fn upward_amount(amounts: Amounts) -> i64
 
 // The amounts that are collected from an area, at the front of `collected`.
 pub fn collect(terms: Terms, body: &[u8], collected: &mut [i64])
-    requires { ⌜ (TermsKept terms) × ((Sound plainPoints (now body)) × (dayPayments ≤ length (now collected))) ⌝ }
+    requires { ⌜ (TermsKept terms) × ((Sound provedPoints (now body)) × (dayPayments ≤ length (now collected))) ⌝ }
     ensures { λ _. ⌜ now (collected .exit) ≡ dayOf (amountIn terms (now (body .entry))) ++ drop dayPayments (now (collected .entry)) ⌝ }
 {
     let day = amounts::day_facts(terms, body);
@@ -36,7 +36,8 @@ pub fn collect(terms: Terms, body: &[u8], collected: &mut [i64])
     let mut at = body::first_hour(load, count);
     let mut h: usize = 0;
     while h < limits::DAY_HOURS {
-        let amounts = amounts::hour_amounts(terms, day, body, h, at);
+        let price = amounts::needed_price(terms, day, body, h, at);
+        let amounts = amounts::hour_amounts(terms, day, price, body, h, at);
         collected[2 * h] = upward_amount(amounts);
         let down = amounts.down;
         let downward = down.0;
@@ -61,7 +62,7 @@ fn where_passed(flag: u32, deficiency: u32, basis: u32) -> u32
 
 // The basis that counts in each of an area's hours and directions, at the front of `counted`.
 pub fn count_basis(body: &[u8], basis: &[u32], counted: &mut [u32])
-    requires { ⌜ (Sound plainPoints (now body)) × ((dayHours ≤ length (now basis)) × (dayPayments ≤ length (now counted))) ⌝ }
+    requires { ⌜ (Sound provedPoints (now body)) × ((dayHours ≤ length (now basis)) × (dayPayments ≤ length (now counted))) ⌝ }
     ensures { λ _. ⌜ now (counted .exit) ≡ dayOf (basisIn (now (body .entry)) (now (basis .entry))) ++ drop dayPayments (now (counted .entry)) ⌝ }
 {
     let flag = words::word(body, 1);

@@ -9,7 +9,7 @@ use Rattle.words.specs.Bytes.{Below}
 use Rattle.limits.specs.declared.Limits.{Limits}
 use Rattle.limits.specs.Ranges.{dayHours}
 use Rattle.limits.specs.Editions.{limitsOf}
-use Rattle.limits.proofs.Editions.{plain}
+use Rattle.limits.proofs.Editions.{proved}
 use Rattle.verdict.specs.Verdict.{numberOf}
 use Rattle.body.specs.Layout.{coordinatorsOf}
 use Rattle.body.proofs.Kept.{always}
@@ -149,7 +149,7 @@ module _ (file : List ℕ) (k : ℕ) (accepted : numberOf (checkOf file) ≡ 0) 
       by (suc j) h = absurd (omega arith)
 
   abbrev front : Below 4294967296 (frontOf (editionOf file) (dayOf file) (peakOf file) single)
-  front = small limits (editionOf file) (dayOf file) (peakOf file) single good (plain (editionOf file))
+  front = small limits (editionOf file) (dayOf file) (peakOf file) single good (proved (editionOf file))
 
   pub alone-accepted : numberOf (checkOf (alone file k)) ≡ 0
   unfolding alone
@@ -163,5 +163,5 @@ module _ (file : List ℕ) (k : ℕ) (accepted : numberOf (checkOf file) ≡ 0) 
         one = count-there (editionOf file) (dayOf file) (peakOf file) single front;
         number = number-there (editionOf file) (dayOf file) (peakOf file) single front 0 (omega arith);
         body = body-is (editionOf file) (dayOf file) (peakOf file) single front 0 (omega arith)
-            (whole limits (editionOf file) (dayOf file) (peakOf file) single good (plain (editionOf file)));
+            (whole limits (editionOf file) (dayOf file) (peakOf file) single good (proved (editionOf file)));
       }

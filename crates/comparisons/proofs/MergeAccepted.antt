@@ -9,7 +9,7 @@ use lib.ListN.{length, drop, length-map}
 use borrow.Author.Tests.{eq-eqb, ne-eqb}
 use Rattle.limits.specs.declared.Limits.{Limits}
 use Rattle.limits.specs.Editions.{limitsOf}
-use Rattle.limits.proofs.Editions.{plain}
+use Rattle.limits.proofs.Editions.{proved}
 use Rattle.verdict.specs.Verdict.{numberOf}
 use Rattle.body.specs.Layout.{kindOf}
 use Rattle.body.specs.Kept.{Sound}
@@ -105,7 +105,7 @@ module _ (i n number : ℕ) (file : List ℕ) (accepted : numberOf (checkOf file
           (λ e. rw (area-kept i n number (areaOf file k) e) (replaced-rest k h own)))
 
   abbrev front : Below 4294967296 (frontOf (editionOf file) (dayOf file) (peakOf file) others)
-  front = small limits (editionOf file) (dayOf file) (peakOf file) others good (plain (editionOf file))
+  front = small limits (editionOf file) (dayOf file) (peakOf file) others good (proved (editionOf file))
 
   count-others : length others ≡ areasOf file
   count-others = length-map (partsOf file) (mergedArea i n number) ∙ count-own
@@ -127,7 +127,7 @@ module _ (i n number : ℕ) (file : List ℕ) (accepted : numberOf (checkOf file
   unfolding merge
   body-there k h =
       body-is (editionOf file) (dayOf file) (peakOf file) others front k (omega (arith, h, count-others))
-      (whole limits (editionOf file) (dayOf file) (peakOf file) others good (plain (editionOf file)))
+      (whole limits (editionOf file) (dayOf file) (peakOf file) others good (proved (editionOf file)))
       ∙ ap (λ a. a .body) (there k h)
 
   ciso-there : (k : ℕ) → k < areasOf file → kindOf (bodyAt file k) ≡ 1 → bodyAt (merge i n number file) k ≡ mergedBody i n number (bodyAt file k)

@@ -3,7 +3,7 @@ use Prim.Native.Nat.{ℕ, _+_, _*_, _/_, _%_, _≤_, _<_}
 use mathlib.Core.Bool.{Bool, true, false, _&&_, _||_}
 use mathlib.Core.List.{List}
 use mathlib.Core.Logic.{_⊎_, inl, inr, ⊎-elim}
-use mathlib.Core.Path.{_≡_}
+use mathlib.Core.Path.{_≡_, sym, ap, _∙_}
 use native.Mathlib.Omega.{arith}
 use lib.Dec.{leb, eqb}
 use lib.ListN.{length}
@@ -14,6 +14,8 @@ use Rattle.limits.specs.Ranges.{peakWord}
 use Rattle.limits.specs.Editions.{limitsOf, editionKnown, KnownEdition, bytesAllowed, WithinBytes}
 use Rattle.limits.proofs.Editions.{bytes-within}
 use Rattle.calendar.specs.Date.{realDate}
+use Rattle.verdict.specs.declared.Verdict.{Verdict}
+use Rattle.verdict.specs.declared.Verdict.the-variants.{BadLength}
 use Rattle.verdict.specs.Verdict.{numberOf}
 use Rattle.verdict.specs.First.{_orElse_}
 use Rattle.verdict.proofs.First.{kept, both, or-first, or-second, scan-each}
@@ -107,3 +109,7 @@ module _ (limits : Limits) (file : List ℕ) (accepted : numberOf (checkWithin l
     -- a body has the bytes that its entry says
     pub body-length : length (bodyAt file k) ≡ 4 * sizeAt file k
     body-length = part-length file (4 * startAt file k) (4 * sizeAt file k) (omega (arith, file-entry .inside))
+
+-- a file refused for its length is not accepted
+pub not-accepted : {told : Verdict} → told ≡ BadLength → numberOf told ≡ 0 → ⊥
+not-accepted e z = let one : numberOf BadLength ≡ 0 = ap numberOf (sym e) ∙ z in omega arith

@@ -1,3 +1,4 @@
 pub mod Ciso
 pub mod Check
 pub mod Lookup
+pub mod Plain

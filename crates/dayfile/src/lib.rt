@@ -1,4 +1,4 @@
-// The day file: the check of all its words, and the lookup of an area's body.
+// The day file: the check of all its words, with which of its areas are plain, and the lookup of an area's body.
 use limits::Limits;
 use verdict::Verdict;
 ghost use mathlib.Core.Path.{_≡_};
@@ -6,9 +6,19 @@ ghost use Prim.Native.Nat.{_+_, _*_, _≤_, _<_, _^_};
 ghost use lib.ListN.{length};
 ghost use Rattle.words.specs.Word.{wordAt};
 ghost use Rattle.verdict.specs.Verdict.{numberOf};
+ghost use Rattle.limits.specs.Ranges.{provedAreas};
+ghost use Rattle.limits.specs.Editions.{Proved};
+ghost use Rattle.contents.specs.File.{areasOf};
 ghost use Rattle.contents.specs.BodyPart.{HandsBack};
+ghost use Rattle.dayfile.specs.Plain.{PlainTold};
 ghost use Rattle.dayfile.specs.Check.{fileHeadRule, fileHeadOf, entryRule, contentsRule, bodiesRule, checkWithin, checkOf};
 ghost use Rattle.dayfile.specs.Lookup.{partFrom, lookupOf};
+
+// What is told of a day file: the first word that breaks its rule and, where none does, which of its areas are plain.
+pub struct Told {
+    pub answer: Verdict,
+    pub plain: [bool; limits::PROVED_AREAS],
+}
 
 // The four head words, in a file of `size` words.
 fn head_words(areas: u32, size: usize, edition: u32, day: u32, n: u32, peak: u32) -> Verdict
@@ -118,57 +128,85 @@ fn contents(most: usize, file: &[u8], n: usize) -> Verdict
     Verdict::Accepted
 }
 
-// The bodies of n entries whose contents are accepted, each handed on as its part of the file.
-fn bodies(limits: Limits, file: &[u8], n: usize) -> Verdict
-    requires { ⌜ (1 ≤ n) × ((16 + 12 * n ≤ length (now file)) × (numberOf (contentsRule (limits .words) (now file) n) ≡ 0)) ⌝ }
-    ensures { λ r. ⌜ r ≡ bodiesRule limits (now (file .entry)) n ⌝ }
+// A file of which a word breaks its rule.
+fn refused(answer: Verdict) -> Told
+    ensures { λ r. ⌜ r .answer ≡ answer ⌝ }
 {
+    Told {
+        answer,
+        plain: [false; limits::PROVED_AREAS],
+    }
+}
+
+// The bodies of n entries whose contents are accepted, each handed on as its part of the file.
+fn bodies(limits: Limits, file: &[u8], n: usize) -> Told
+    requires { ⌜ (Proved limits) × (n ≤ provedAreas) ⌝ }
+    requires { ⌜ (1 ≤ n) × ((16 + 12 * n ≤ length (now file)) × (numberOf (contentsRule (limits .words) (now file) n) ≡ 0)) ⌝ }
+    ensures { λ r. ⌜ r .answer ≡ bodiesRule limits (now (file .entry)) n ⌝ }
+    ensures { λ r. ⌜ (numberOf (r .answer) ≡ 0 → PlainTold (r .plain) (now (file .entry)) n) ⌝ }
+{
+    let mut plain = [false; limits::PROVED_AREAS];
     let mut ciso: u32 = 0;
     let mut area: usize = 0;
     while area < n {
         let start = words::word(file, 4 + 3 * area + 1) as usize;
         let body = contents::body_at(file, area);
-        let v = body::check(limits, ciso, start, body);
-        if verdict::number(v) != 0 {
-            return v;
+        let told = body::check(limits, ciso, start, body);
+        let answer = told.answer;
+        if verdict::number(answer) != 0 {
+            return refused(answer);
         }
+        plain[area] = told.plain;
         ciso += words::word(body, 0);
         area += 1;
     }
-    Verdict::Accepted
+    Told {
+        answer: Verdict::Accepted,
+        plain,
+    }
 }
 
 // The check of a file of 16 bytes or more within given limits.
-fn check_within(limits: Limits, file: &[u8]) -> Verdict
-    requires { ⌜ 16 ≤ length (now file) ⌝ }
-    ensures { λ r. ⌜ r ≡ checkWithin limits (now (file .entry)) ⌝ }
+fn check_within(limits: Limits, file: &[u8]) -> Told
+    requires { ⌜ (Proved limits) × (16 ≤ length (now file)) ⌝ }
+    ensures { λ r. ⌜ r .answer ≡ checkWithin limits (now (file .entry)) ⌝ }
+    ensures { λ r. ⌜ (numberOf (r .answer) ≡ 0 → PlainTold (r .plain) (now (file .entry)) (areasOf (now (file .entry)))) ⌝ }
 {
     if !limits::allows(limits, file.len()) {
-        return Verdict::BadLength;
+        return refused(Verdict::BadLength);
     }
     if file.len() % 4 != 0 {
-        return Verdict::BadLength;
+        return refused(Verdict::BadLength);
     }
     let first = head(limits.areas, file);
     if verdict::number(first) != 0 {
-        return first;
+        return refused(first);
     }
     let n = words::word(file, 2) as usize;
     let second = contents(limits.words as usize, file, n);
     if verdict::number(second) != 0 {
-        return second;
+        return refused(second);
     }
     bodies(limits, file, n)
 }
 
-// The first word of a day file that breaks its rule. The file's first word sets the limits.
+// The first word of a day file that breaks its rule, and which of its areas are plain. The file's first word sets the limits.
+pub fn checked(file: &[u8]) -> Told
+    ensures { λ r. ⌜ r .answer ≡ checkOf (now (file .entry)) ⌝ }
+    ensures { λ r. ⌜ (numberOf (r .answer) ≡ 0 → PlainTold (r .plain) (now (file .entry)) (areasOf (now (file .entry)))) ⌝ }
+{
+    if file.len() < 16 {
+        return refused(Verdict::BadLength);
+    }
+    check_within(limits::limits_of(words::word(file, 0)), file)
+}
+
+// The first word of a day file that breaks its rule.
 pub fn check(file: &[u8]) -> Verdict
     ensures { λ r. ⌜ r ≡ checkOf (now (file .entry)) ⌝ }
 {
-    if file.len() < 16 {
-        return Verdict::BadLength;
-    }
-    check_within(limits::limits_of(words::word(file, 0)), file)
+    let told = checked(file);
+    told.answer
 }
 
 // The body of an area in an accepted file.

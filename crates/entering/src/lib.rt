@@ -82,7 +82,8 @@ fn enter_after(given: Record, file: &[u8]) -> Entered
 pub fn enter(given: Record, file: &[u8]) -> Entered
     ensures { λ r. ⌜ r ≡ entered given (now (file .entry)) ⌝ }
 {
-    let v = record_check::admit(given, file);
+    let told = record_check::admit(given, file);
+    let v = told.answer;
     if verdict::number(v) != 0 {
         return refuse(v, given);
     }

@@ -13,6 +13,13 @@ two-steps x y z =
     +ℤ-comm (y -ℤ x) (z -ℤ y) ∙ +ℤ-assoc z (negℤ y) (y -ℤ x)
     ∙ ap (λ w. z +ℤ w) (sym (+ℤ-assoc (negℤ y) y (negℤ x)) ∙ ap (λ w. w +ℤ negℤ x) (+ℤ-invl y) ∙ +ℤ-idl (negℤ x))
 
+-- two sums of two, taken crosswise
+pub crosswise : (a b c d : ℤ) → (a +ℤ b) +ℤ (c +ℤ d) ≡ (a +ℤ c) +ℤ (b +ℤ d)
+crosswise a b c d =
+    +ℤ-assoc a b (c +ℤ d)
+    ∙ ap (λ z. a +ℤ z) (sym (+ℤ-assoc b c d) ∙ ap (λ z. z +ℤ d) (+ℤ-comm b c) ∙ +ℤ-assoc c b d)
+    ∙ sym (+ℤ-assoc a c (b +ℤ d))
+
 -- ---- signs
 
 pub neg-plus-neg : (x y : ℕ) → negℤ (pos x) +ℤ negℤ (pos y) ≡ negℤ (pos (x + y))

@@ -32,13 +32,6 @@ pub fn product(a: u32, b: i32) -> i64
     (a as i64) * (b as i64)
 }
 
-// The whole product of two signed words, of which the machine makes several at a time.
-pub fn signed_product(a: i32, b: i32) -> i64
-    ensures { λ r. ⌜ r ≡ a *ℤ b ⌝ }
-{
-    (a as i64) * (b as i64)
-}
-
 pub fn times(z: i64, n: u32) -> i64
     requires { ⌜ SFits w64 (z *ℤ pos n) ⌝ }
     ensures { λ r. ⌜ r ≡ z *ℤ pos n ⌝ }

@@ -12,7 +12,7 @@ ghost use mathlib.Core.Path.{_≡_};
 ghost use Prim.Native.Nat.{_+_, _*_, _≤_, _<_};
 ghost use lib.ListN.{length};
 ghost use Rattle.words.specs.Word.{wordAt};
-ghost use Rattle.limits.specs.Ranges.{dayHours, mostCoordinators, plainPoints};
+ghost use Rattle.limits.specs.Ranges.{dayHours, mostCoordinators, provedPoints};
 ghost use Rattle.hour.specs.Layout.{hourWords};
 ghost use Rattle.body.specs.Layout.{pointsOf, coordinatorsOf, hourAt};
 ghost use Rattle.body.specs.Kept.{Sound};
@@ -33,14 +33,14 @@ fn area_number(file: &[u8], k: usize) -> u32
 // The body of area k.
 fn area_body(file: &[u8], k: usize) -> &[u8]
     requires { ⌜ (SoundFile (now file)) × (k < areasOf (now file)) ⌝ }
-    ensures { λ r. ⌜ Sound plainPoints (now r) ⌝ }
+    ensures { λ r. ⌜ Sound provedPoints (now r) ⌝ }
 {
     contents::body_at(file, k)
 }
 
 // Word i of a body's head.
 fn head_word(body: &[u8], i: usize) -> u32
-    requires { ⌜ (Sound plainPoints (now body)) × (i < 7) ⌝ }
+    requires { ⌜ (Sound provedPoints (now body)) × (i < 7) ⌝ }
     ensures { λ r. ⌜ r ≡ wordAt (now (body .entry)) i ⌝ }
 {
     words::word(body, i)
@@ -48,7 +48,7 @@ fn head_word(body: &[u8], i: usize) -> u32
 
 // K of a body.
 fn coordinators(body: &[u8]) -> usize
-    requires { ⌜ Sound plainPoints (now body) ⌝ }
+    requires { ⌜ Sound provedPoints (now body) ⌝ }
     ensures { λ r. ⌜ (r ≡ coordinatorsOf (now (body .entry))) × (r ≤ mostCoordinators) ⌝ }
 {
     head_word(body, 6) as usize
@@ -56,15 +56,15 @@ fn coordinators(body: &[u8]) -> usize
 
 // L of a body.
 fn load_points(body: &[u8]) -> usize
-    requires { ⌜ Sound plainPoints (now body) ⌝ }
-    ensures { λ r. ⌜ (r ≡ pointsOf (now (body .entry))) × (r ≤ plainPoints) ⌝ }
+    requires { ⌜ Sound provedPoints (now body) ⌝ }
+    ensures { λ r. ⌜ (r ≡ pointsOf (now (body .entry))) × (r ≤ provedPoints) ⌝ }
 {
     head_word(body, 5) as usize
 }
 
 // Where hour h of a body starts.
 fn hour_start(body: &[u8], h: usize) -> usize
-    requires { ⌜ (Sound plainPoints (now body)) × (h < dayHours) ⌝ }
+    requires { ⌜ (Sound provedPoints (now body)) × (h < dayHours) ⌝ }
     ensures { λ r. ⌜ r ≡ hourAt (now (body .entry)) h ⌝ }
     ensures { λ r. ⌜ 4 * (r + hourWords (pointsOf (now (body .entry))) (coordinatorsOf (now (body .entry)))) ≤ length (now (body .entry)) ⌝ }
 {
@@ -75,7 +75,7 @@ fn hour_start(body: &[u8], h: usize) -> usize
 
 // What an area's day is settled under.
 fn terms_of(peak: u32, body: &[u8]) -> Terms
-    requires { ⌜ Sound plainPoints (now body) ⌝ }
+    requires { ⌜ Sound provedPoints (now body) ⌝ }
     ensures { λ r. ⌜ TermsKept r ⌝ }
 {
     Terms {
@@ -134,7 +134,7 @@ fn area_header() -> bool {
 
 // P of a body.
 fn greater_hub_price(body: &[u8]) -> i32
-    requires { ⌜ Sound plainPoints (now body) ⌝ }
+    requires { ⌜ Sound provedPoints (now body) ⌝ }
 {
     let hub = amounts::hub_price(body);
     hub.0
@@ -142,7 +142,7 @@ fn greater_hub_price(body: &[u8]) -> i32
 
 // The words of an area as the file has them, up to the hub prices and the greater one.
 fn show_area_words(area: u32, body: &[u8]) -> bool
-    requires { ⌜ Sound plainPoints (now body) ⌝ }
+    requires { ⌜ Sound provedPoints (now body) ⌝ }
 {
     show::text(b"area")
         & show::number_field(area as i64)
@@ -155,7 +155,7 @@ fn show_area_words(area: u32, body: &[u8]) -> bool
 }
 
 fn show_area(area: u32, terms: Terms, body: &[u8]) -> bool
-    requires { ⌜ (TermsKept terms) × (Sound plainPoints (now body)) ⌝ }
+    requires { ⌜ (TermsKept terms) × (Sound provedPoints (now body)) ⌝ }
 {
     let day = amounts::day_facts(terms, body);
     let most = day.most;
@@ -255,7 +255,7 @@ fn show_hour(area: u32, terms: Terms, day: Day, body: &[u8], h: usize, numbers: 
 }
 
 fn show_area_hours(area: u32, terms: Terms, body: &[u8], block: &[i64]) -> bool
-    requires { ⌜ (TermsKept terms) × (Sound plainPoints (now body)) ⌝ }
+    requires { ⌜ (TermsKept terms) × (Sound provedPoints (now body)) ⌝ }
 {
     let day = amounts::day_facts(terms, body);
     let count = coordinators(body);
@@ -306,7 +306,7 @@ fn show_interval(area: u32, h: usize, i: usize, quantity: u32, price: u32) -> bo
 }
 
 fn show_hour_intervals(area: u32, body: &[u8], h: usize) -> bool
-    requires { ⌜ (Sound plainPoints (now body)) × (h < dayHours) ⌝ }
+    requires { ⌜ (Sound provedPoints (now body)) × (h < dayHours) ⌝ }
 {
     let from = hour_start(body, h) + 8;
     let count = 12 * load_points(body);
@@ -322,7 +322,7 @@ fn show_hour_intervals(area: u32, body: &[u8], h: usize) -> bool
 }
 
 fn show_area_intervals(area: u32, body: &[u8]) -> bool
-    requires { ⌜ Sound plainPoints (now body) ⌝ }
+    requires { ⌜ Sound provedPoints (now body) ⌝ }
 {
     let mut written = true;
     let mut h: usize = 0;
@@ -366,7 +366,7 @@ fn show_charge(area: u32, coordinator: u32, h: usize, demand: u32, charge: i64) 
 }
 
 fn show_hour_charges(area: u32, body: &[u8], h: usize, charges: &[i64]) -> bool
-    requires { ⌜ (Sound plainPoints (now body)) × (h < dayHours) ⌝ }
+    requires { ⌜ (Sound provedPoints (now body)) × (h < dayHours) ⌝ }
 {
     let from = hour_start(body, h) + 8 + 24 * load_points(body);
     let count = coordinators(body);
@@ -382,7 +382,7 @@ fn show_hour_charges(area: u32, body: &[u8], h: usize, charges: &[i64]) -> bool
 }
 
 fn show_area_charges(area: u32, body: &[u8], block: &[i64]) -> bool
-    requires { ⌜ Sound plainPoints (now body) ⌝ }
+    requires { ⌜ Sound provedPoints (now body) ⌝ }
 {
     let count = coordinators(body);
     let mut written = true;
@@ -521,7 +521,7 @@ fn show_day_totals(file: &[u8], n: usize, statement: &[i64]) -> bool
 
 // Which of an area's coordinators has the number; K where none has.
 fn position(body: &[u8], coordinator: u32) -> usize
-    requires { ⌜ Sound plainPoints (now body) ⌝ }
+    requires { ⌜ Sound provedPoints (now body) ⌝ }
     ensures { λ r. ⌜ r ≤ coordinatorsOf (now (body .entry)) ⌝ }
 {
     let count = coordinators(body);
@@ -565,7 +565,7 @@ fn charges_of(block: &[i64], count: usize, i: usize) -> i64
 
 // The charges of a coordinator in an area; 0 where it is none of the area's.
 fn charges_in(body: &[u8], block: &[i64], coordinator: u32) -> i64
-    requires { ⌜ Sound plainPoints (now body) ⌝ }
+    requires { ⌜ Sound provedPoints (now body) ⌝ }
 {
     let count = coordinators(body);
     let i = position(body, coordinator);

@@ -109,7 +109,8 @@ pub fn hour_amount(terms: Terms, day: Day, body: &[u8], h: usize, at: usize) -> 
     requires { ⌜ AtHour terms day (now body) h at ⌝ }
     ensures { λ r. ⌜ r .0 ≡ amountAt terms (now (body .entry)) h ⌝ }
 {
-    amounts::amount_of(amounts::hour_amounts(terms, day, body, h, at))
+    let price = amounts::needed_price(terms, day, body, h, at);
+    amounts::amount_of(amounts::hour_amounts(terms, day, price, body, h, at))
 }
 
 // T of hour h.

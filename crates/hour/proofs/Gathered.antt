@@ -4,6 +4,7 @@ use mathlib.Core.Bool.{Bool, true, false, cond, _&&_, _||_, and-false}
 use mathlib.Core.List.{List}
 use mathlib.Core.Path.{_≡_, refl, sym, ap, ap₂, _∙_}
 use native.Mathlib.Omega.{arith}
+use native.Mathlib.Nat.{zero-add}
 use native.Mathlib.Numerals.{add-one}
 use lib.Bits.{bitOr, or-add-and, and-le-r}
 use lib.Dec.{eqb, leb}
@@ -20,13 +21,14 @@ use Rattle.verdict.specs.Verdict.{numberOf}
 use Rattle.verdict.specs.First.{rule_else_then_, _orElse_, scan}
 use Rattle.verdict.proofs.First.{or-accepts, or-assoc, scan-accepts}
 use Rattle.hour.specs.Layout.{missing}
-use Rattle.hour.specs.Gathered.{Gathered}
-use Rattle.hour.specs.Check.{rangeRule, pairRule, demandRule, demandRuleAt, demandsRule, numbersRule, intervalsRule, hourRule}
+use Rattle.hour.specs.Gathered.{Gathered, GatheredFrom}
+use Rattle.hour.specs.Plain.{presentFrom, quantityFrom}
+use Rattle.hour.specs.Check.{rangeRule, pairRule, demandRule, intervalRuleAt, demandRuleAt, demandsRule, numbersRule, intervalsRule, hourRule}
 use Rattle.hour.proofs.Rules.{demand-accepts}
 
 -- ---- two gathered numbers, joined
 
-joined-least : (a b : ℕ) → a ≤ bitOr a b
+pub joined-least : (a b : ℕ) → a ≤ bitOr a b
 joined-least a b = omega (arith, or-add-and a b, and-le-r a b)
 
 joined-none : (a b : ℕ) → eqb (bitOr a b) 0 ≡ (eqb a 0 && eqb b 0)
@@ -62,6 +64,34 @@ pair-gathered place next quantity price a b e f =
     by true false = refl
     by false true = refl
     by false false = refl
+
+-- ---- the intervals: their rule, how many have a price, and the quantities of these
+
+sum-none : (a b : ℕ) → eqb (a + b) 0 ≡ (eqb a 0 && eqb b 0)
+sum-none zero b = rw zero-add
+sum-none (suc a) b = rw (ne-eqb (suc a) 0 (λ z. omega arith)) (ne-eqb (suc a + b) 0 (λ z. omega arith))
+
+-- what is joined is 0 exactly if the sum is
+pub joined-sum : (joined sum more : ℕ) → eqb joined 0 ≡ eqb sum 0 → eqb (bitOr joined more) 0 ≡ eqb (sum + more) 0
+joined-sum joined sum more e = joined-none joined more ∙ ap (λ t. t && eqb more 0) e ∙ sym (sum-none sum more)
+
+module _ (body : List ℕ) (from : ℕ) where
+  pub none-gathered : GatheredFrom body from 0 0 0 0
+  unfolding intervalsRule scan presentFrom quantityFrom
+  none-gathered = record { accepted = λ start. record { exact = refl }; counted = refl; some = refl }
+
+  pub interval-gathered : (n outside present quantities quantity price a b p q : ℕ) → GatheredFrom body from n outside present quantities
+      → quantity ≡ wordAt body (from + 2 * n) → price ≡ wordAt body (from + 2 * n + 1) → a ≡ cond (leb quantity mostQuantity) 0 1
+      → b ≡ cond (missing price || leb (natAbs (signedOf price)) mostMarketPrice) 0 1 → p ≡ cond (missing price) 0 1 → q ≡ cond (missing price) 0 quantity
+      → GatheredFrom body from (n + 1) (bitOr outside (bitOr a b)) (present + p) (bitOr quantities q)
+  unfolding intervalsRule intervalRuleAt presentFrom quantityFrom
+  interval-gathered n outside present quantities quantity price a b p q before e f ranged priced there counted =
+      record {
+        accepted = λ start.
+            more-gathered (intervalRuleAt start body from) (before .accepted start) (rw (← e, ← f) (pair-gathered _ _ quantity price a b ranged priced));
+        counted = rw (add-one, ← f) (ap₂ _+_ (before .counted) there);
+        some = rw (add-one, ← e, ← f, ← counted) (joined-sum quantities (quantityFrom body from n) q (before .some));
+      }
 
 -- ---- the demands
 

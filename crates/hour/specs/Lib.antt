@@ -2,3 +2,4 @@ pub mod Layout
 pub mod Check
 pub mod Kept
 pub mod Gathered
+pub mod Plain

@@ -1,4 +1,4 @@
--- Every edition's limits lie within the plain limits of the proofs, and within the most over all editions.
+-- Every edition's limits lie within the limits of the proofs, and within the most over all editions.
 use Prim.Native.Nat.{ℕ, _≤_}
 use mathlib.Core.Bool.{Bool, true, false, false≢true}
 use mathlib.Core.Path.{_≡_, refl}
@@ -6,11 +6,11 @@ use native.Mathlib.Omega.{arith}
 use borrow.Author.Tests.{leb-true, le-leb}
 use Rattle.limits.specs.declared.Limits.{Limits}
 use Rattle.limits.specs.Editions.{mostAreas, mostHeld, mostBytes, editionOne, widestEdition}
-use Rattle.limits.specs.Editions.{limitsOf, KnownEdition, bytesAllowed, WithinBytes, Plain, RoomFor}
+use Rattle.limits.specs.Editions.{limitsOf, KnownEdition, bytesAllowed, WithinBytes, Proved, RoomFor}
 
-pub plain : (edition : ℕ) → Plain (limitsOf edition)
+pub proved : (edition : ℕ) → Proved (limitsOf edition)
 unfolding limitsOf editionOne
-plain edition = record { areas = omega arith; points = omega arith; words = omega arith }
+proved edition = record { areas = omega arith; points = omega arith; words = omega arith }
 
 pub areas-most : (edition : ℕ) → limitsOf edition .areas ≤ mostAreas
 unfolding limitsOf editionOne

@@ -4,7 +4,7 @@ use mathlib.Core.Bool.{Bool, true, not, _||_}
 use mathlib.Core.Path.{_≡_}
 use lib.Dec.{eqb, leb}
 use Rattle.limits.specs.declared.Limits.{Limits}
-use Rattle.limits.specs.Ranges.{plainAreas, plainPoints, plainWords, leastBodyWords}
+use Rattle.limits.specs.Ranges.{provedAreas, provedPoints, provedWords, leastBodyWords}
 
 -- the most areas, the most load points and, of those that bound them, the most bytes over all editions
 abbrev pub mostAreas : ℕ
@@ -46,12 +46,12 @@ bytesAllowed limits bytes = not (limits .bounded) || leb bytes (limits .bytes)
 abbrev pub WithinBytes : Limits → ℕ → Type 0
 WithinBytes limits bytes = limits .bounded ≡ true → bytes ≤ limits .bytes
 
--- ---- limits within the plain limits of the proofs
+-- ---- limits within the limits of the proofs
 
-pub record Plain (limits : Limits) : Type 0 where
-  pub areas : limits .areas ≤ plainAreas
-  pub points : limits .points ≤ plainPoints
-  pub words : limits .words ≤ plainWords
+pub record Proved (limits : Limits) : Type 0 where
+  pub areas : limits .areas ≤ provedAreas
+  pub points : limits .points ≤ provedPoints
+  pub words : limits .words ≤ provedWords
 
 -- ---- a file that marks every area that a record holds
 

@@ -85,18 +85,18 @@ mostUpward = 4 * mostDeficiency
 abbrev pub mostDownward : ℕ
 mostDownward = 2 * mostDeficiency
 
--- ---- the plain limits of the proofs: no edition goes past them
+-- ---- the limits of the proofs: no edition goes past them
 
-abbrev pub plainAreas : ℕ
-plainAreas = 32
+abbrev pub provedAreas : ℕ
+provedAreas = 32
 
-abbrev pub plainPoints : ℕ
-plainPoints = 32
+abbrev pub provedPoints : ℕ
+provedPoints = 32
 
 -- the intervals of an hour with as many load points
-abbrev pub plainIntervals : ℕ
-plainIntervals = 12 * plainPoints
+abbrev pub provedIntervals : ℕ
+provedIntervals = 12 * provedPoints
 
 -- the words of a body with as many load points and the most coordinators
-abbrev pub plainWords : ℕ
-plainWords = 7 + mostCoordinators + dayHours * (8 + 24 * plainPoints + mostCoordinators)
+abbrev pub provedWords : ℕ
+provedWords = 7 + mostCoordinators + dayHours * (8 + 24 * provedPoints + mostCoordinators)

@@ -46,7 +46,7 @@ pub const MISSING_PRICE: u32 = 2147483648;
 
 // ---- room for every area: no edition has more
 
-pub const PLAIN_AREAS: usize = 32;
+pub const PROVED_AREAS: usize = 32;
 
 // ---- editions
 

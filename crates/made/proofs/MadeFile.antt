@@ -9,7 +9,7 @@ use lib.ListN.{length, getD, length-map}
 use Rattle.limits.specs.declared.Limits.{Limits}
 use Rattle.limits.specs.Ranges.{mostDeficiency, leastBodyWords}
 use Rattle.limits.specs.Editions.{widestEdition, limitsOf}
-use Rattle.limits.proofs.Editions.{plain, widest-known, widest-room}
+use Rattle.limits.proofs.Editions.{proved, widest-known, widest-room}
 use Rattle.calendar.specs.Date.{realDate}
 use Rattle.verdict.specs.Verdict.{numberOf}
 use Rattle.words.specs.Bytes.{Below}
@@ -99,7 +99,7 @@ module _ (deficiency : ℕ) (low-enough : deficiency ≤ mostDeficiency) where
         }
 
     abbrev front : Below 4294967296 (frontOf widestEdition date 0 made)
-    front = small limits widestEdition date 0 made good (plain widestEdition)
+    front = small limits widestEdition date 0 made good (proved widestEdition)
 
     pub made-accepted : numberOf (checkOf (fileMade deficiency date areas)) ≡ 0
     unfolding fileMade
@@ -121,5 +121,5 @@ module _ (deficiency : ℕ) (low-enough : deficiency ≤ mostDeficiency) where
       pub made-body : bodyAt (fileMade deficiency date areas) k ≡ madeBody deficiency
       unfolding fileMade
       made-body =
-          body-is widestEdition date 0 made front k (omega (arith, count)) (whole limits widestEdition date 0 made good (plain widestEdition))
+          body-is widestEdition date 0 made front k (omega (arith, count)) (whole limits widestEdition date 0 made good (proved widestEdition))
           ∙ ap (λ a. a .body) (at areas k below)

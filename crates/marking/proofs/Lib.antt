@@ -1,2 +1,1 @@
 pub mod MarkedAreas
-pub mod Unmarked

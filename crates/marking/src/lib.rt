@@ -1,12 +1,12 @@
 // Whether a day is marked for an area: flag 1, and an hour of tier 2 or 3, peak or not.
 ghost use mathlib.Core.Path.{_≡_};
-ghost use Rattle.limits.specs.Ranges.{plainPoints, dayHours};
+ghost use Rattle.limits.specs.Ranges.{provedPoints, dayHours};
 ghost use Rattle.body.specs.Kept.{Sound};
 ghost use Rattle.marking.specs.Marked.{failedBefore, markedIn};
 
 // Whether an hour of the body is of tier 2 or 3.
 fn failed(body: &[u8]) -> bool
-    requires { ⌜ Sound plainPoints (now body) ⌝ }
+    requires { ⌜ Sound provedPoints (now body) ⌝ }
     ensures { λ r. ⌜ r ≡ failedBefore (now (body .entry)) dayHours ⌝ }
 {
     let load = words::word(body, 5) as usize;
@@ -26,7 +26,7 @@ fn failed(body: &[u8]) -> bool
 }
 
 pub fn marked(body: &[u8]) -> bool
-    requires { ⌜ Sound plainPoints (now body) ⌝ }
+    requires { ⌜ Sound provedPoints (now body) ⌝ }
     ensures { λ r. ⌜ r ≡ markedIn (now (body .entry)) ⌝ }
 {
     if words::word(body, 1) != 1 {

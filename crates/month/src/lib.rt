@@ -21,7 +21,8 @@ fn settle_day(file: &[u8], statement: &mut [i64]) -> DayPart
     ensures { λ r. ⌜ r .numbers ≡ min (numbersTaken (now (file .entry))) (length (now (statement .entry))) ⌝ }
     ensures { λ _. ⌜ now (statement .exit) ≡ settledDay (now (file .entry)) (now (statement .entry)) ⌝ }
 {
-    let v = dayfile::check(file);
+    let told = dayfile::checked(file);
+    let v = told.answer;
     if verdict::number(v) != 0 {
         return DayPart {
             answer: v,
@@ -29,8 +30,9 @@ fn settle_day(file: &[u8], statement: &mut [i64]) -> DayPart
         };
     }
     let needed = settlement::numbers_needed(file, words::word(file, 2) as usize);
+    let plain = told.plain;
     let own = [0u32; 0];
-    let answer = settlement::settle_accepted(&own, file, statement);
+    let answer = settlement::settle_accepted(plain, &own, file, statement);
     if statement.len() < needed {
         return DayPart {
             answer,

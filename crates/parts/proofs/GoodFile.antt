@@ -13,9 +13,9 @@ use lib.ListN.{length, getD}
 use borrow.Author.Tests.{leb-true}
 use Rattle.words.specs.Word.{wordAt}
 use Rattle.limits.specs.declared.Limits.{Limits}
-use Rattle.limits.specs.Ranges.{peakWord, plainWords}
-use Rattle.limits.specs.Editions.{limitsOf, Plain}
-use Rattle.limits.proofs.Editions.{plain}
+use Rattle.limits.specs.Ranges.{peakWord, provedWords}
+use Rattle.limits.specs.Editions.{limitsOf, Proved}
+use Rattle.limits.proofs.Editions.{proved}
 use Rattle.calendar.specs.Date.{realDate}
 use Rattle.verdict.specs.Verdict.{numberOf}
 use Rattle.verdict.proofs.First.{both}
@@ -65,7 +65,7 @@ contents-below start (area ∷ areas) numbers fits (suc (suc zero)) h = omega (a
 contents-below start (area ∷ areas) numbers fits (suc (suc (suc i))) h =
     contents-below (start + sizeOf area) areas (λ k p. numbers (suc k) (omega arith)) (omega (arith, words-shift area areas (length areas))) i (omega arith)
 
-module _ (limits : Limits) (edition day peak : ℕ) (areas : List Area) (good : Good limits edition day peak areas) (within : Plain limits) where
+module _ (limits : Limits) (edition day peak : ℕ) (areas : List Area) (good : Good limits edition day peak areas) (within : Proved limits) where
   abbrev n : ℕ
   n = length areas
 
@@ -75,8 +75,8 @@ module _ (limits : Limits) (edition day peak : ℕ) (areas : List Area) (good : 
   pub whole : Whole areas
   whole = record { each = λ k h. good .area k h .whole }
 
-  -- within the plain limits the bodies are short enough for their starts to be words
-  bodies-few : (k : ℕ) → k ≤ n → wordsTo areas k ≤ plainWords * k
+  -- within the limits of the proofs the bodies are short enough for their starts to be words
+  bodies-few : (k : ℕ) → k ≤ n → wordsTo areas k ≤ provedWords * k
   unfolding wordsTo
   bodies-few zero h = omega arith
   bodies-few (suc k) h = omega (arith, bodies-few k (omega arith), good .area k h .most, within .words)
@@ -172,5 +172,5 @@ pub file-accepted : (edition day peak : ℕ) (areas : List Area) → Good (limit
 unfolding checkOf
 file-accepted edition day peak areas good =
     let limits = limitsOf edition in
-    rw (edition-there edition day peak areas (small limits edition day peak areas good (plain edition)))
-    (good-accepted limits edition day peak areas good (plain edition))
+    rw (edition-there edition day peak areas (small limits edition day peak areas good (proved edition)))
+    (good-accepted limits edition day peak areas good (proved edition))

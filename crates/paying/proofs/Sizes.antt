@@ -6,7 +6,7 @@ use native.Mathlib.Omega.{arith}
 use lib.IntN.{ℤ, pos, natAbs}
 use lib.ListN.{getD}
 use Rattle.exact.proofs.Magnitude.{abs-add}
-use Rattle.limits.specs.Ranges.{dayPayments, mostBasis, plainAreas}
+use Rattle.limits.specs.Ranges.{dayPayments, mostBasis, provedAreas}
 use Rattle.shares.specs.Shares.{sum}
 use Rattle.paying.specs.Columns.{each, column, paidTo}
 use Rattle.paying.specs.Ranges.{mostCollected, ColumnKept, TableKept}
@@ -18,11 +18,11 @@ sum-small m number k zero small = omega arith
 sum-small m number k (suc n) small =
     omega (arith, abs-add (number k) (sum (each number (suc k) n)), small k (omega arith), sum-small m number (suc k) n (λ i p. small i (omega arith)), mul-suc m n)
 
-pub collected-small : (table : List ℤ) (n j : ℕ) → ColumnKept table n j → natAbs (sum (column (pos 0) table n j)) ≤ mostCollected * plainAreas
+pub collected-small : (table : List ℤ) (n j : ℕ) → ColumnKept table n j → natAbs (sum (column (pos 0) table n j)) ≤ mostCollected * provedAreas
 collected-small table n j kept =
     omega (arith, sum-small mostCollected (λ k. getD table (dayPayments * k + j) (pos 0)) 0 n (λ k p. kept .each k (omega arith)), kept .few)
 
-pub payment-fits : (collected : ℤ) (t : ℕ) → natAbs collected ≤ mostCollected * plainAreas → t ≤ mostBasis → natAbs collected * t < 2 ^ 63
+pub payment-fits : (collected : ℤ) (t : ℕ) → natAbs collected ≤ mostCollected * provedAreas → t ≤ mostBasis → natAbs collected * t < 2 ^ 63
 payment-fits collected t h k = omega (arith, mul-le-mul h k)
 
 -- a table keeps its bounds in the columns that are not paid out yet

@@ -4,7 +4,7 @@ use mathlib.Core.List.{List}
 use lib.IntN.{ℤ, pos, natAbs}
 use lib.ListN.{length, getD}
 use Rattle.exact.specs.Total.{total}
-use Rattle.limits.specs.Ranges.{dayPayments, mostBasis, plainAreas}
+use Rattle.limits.specs.Ranges.{dayPayments, mostBasis, provedAreas}
 use Rattle.limits.specs.Editions.{mostAreas}
 use Rattle.paying.specs.Columns.{column}
 
@@ -14,7 +14,7 @@ mostCollected = 7200000000
 
 -- the numbers of column j lie within the table, and each is one area's
 pub record ColumnKept (table : List ℤ) (n j : ℕ) : Type 0 where
-  pub few : n ≤ plainAreas
+  pub few : n ≤ provedAreas
   pub below : j < dayPayments
   pub room : dayPayments * n ≤ length table
   pub each : (k : ℕ) → k < n → natAbs (getD table (dayPayments * k + j) (pos 0)) ≤ mostCollected

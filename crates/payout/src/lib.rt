@@ -6,14 +6,14 @@ ghost use mathlib.Core.List.{_++_};
 ghost use Prim.Native.Nat.{_+_, _*_, _≤_, _<_};
 ghost use lib.ListN.{length, drop};
 ghost use Rattle.exact.specs.Total.{total};
-ghost use Rattle.limits.specs.Ranges.{dayHours, dayPayments, plainAreas};
+ghost use Rattle.limits.specs.Ranges.{dayHours, dayPayments, provedAreas};
 ghost use Rattle.contents.specs.File.{areasOf};
 ghost use Rattle.settlement.specs.SoundFile.{SoundFile};
 ghost use Rattle.payout.specs.PayOut.{areasTo, basisAt, basisRule, collectedFrom, basisOf, payOutRule, paymentsAfter};
 
 // What the basis of hour h adds up to, over n areas.
 fn hour_basis(basis: &[u32], n: usize, h: usize) -> u64
-    requires { ⌜ (n ≤ plainAreas) × ((h < dayHours) × (dayHours * n ≤ length (now basis))) ⌝ }
+    requires { ⌜ (n ≤ provedAreas) × ((h < dayHours) × (dayHours * n ≤ length (now basis))) ⌝ }
     ensures { λ r. ⌜ r ≡ total (basisAt (now (basis .entry)) n h) ⌝ }
 {
     let mut sum: u64 = 0;
@@ -27,7 +27,7 @@ fn hour_basis(basis: &[u32], n: usize, h: usize) -> u64
 
 // Whether the basis of n areas keeps its rule. What adds up to at most 10,000,000 has no larger number in it.
 fn check_basis(basis: &[u32], n: usize) -> Verdict
-    requires { ⌜ n ≤ plainAreas ⌝ }
+    requires { ⌜ n ≤ provedAreas ⌝ }
     ensures { λ r. ⌜ r ≡ basisRule (now (basis .entry)) n ⌝ }
 {
     if basis.len() != limits::DAY_HOURS * n {

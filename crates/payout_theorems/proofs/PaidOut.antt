@@ -9,6 +9,7 @@ use native.Mathlib.Omega.{arith}
 use borrow.Author.Tests.{eq-eqb, ne-eqb}
 use lib.IntN.{ℤ, _+ℤ_, +ℤ-idl, +ℤ-idr}
 use lib.ListN.{length}
+use Rattle.exact.proofs.Difference.{crosswise}
 use Rattle.exact.specs.Total.{total}
 use Rattle.limits.specs.Ranges.{dayHours}
 use Rattle.verdict.specs.Verdict.{numberOf}
@@ -24,7 +25,7 @@ use Rattle.paying.specs.Columns.{each}
 use Rattle.paying.proofs.Columns.{each-same}
 use Rattle.payout.specs.PayOut.{areasTo, collectedFrom, collectedAt, passingBasis, paymentAt, restAt, paymentsOf, payOutRule}
 use Rattle.payout_theorems.specs.PaidOut.{paymentsLeft, amountShown, allAmounts, PaidOut}
-use Rattle.payout_theorems.proofs.Sums.{crosswise, sum-append, sum-both, sum-swapped, bothOf, sum-day, sum-areas}
+use Rattle.payout_theorems.proofs.Sums.{sum-append, sum-both, sum-swapped, bothOf, sum-day, sum-areas}
 use Rattle.payout_theorems.proofs.Shown.{own-shares, front-is, rest-shown, shown-shares}
 use Rattle.payout_theorems.proofs.Collected.{amount-shown, collected-shown}
 

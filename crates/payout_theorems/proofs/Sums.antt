@@ -5,18 +5,12 @@ use mathlib.Core.Path.{_≡_, refl, sym, ap, ap₂, _∙_}
 use native.Mathlib.Nat.{add-zero, zero-add}
 use native.Mathlib.Omega.{arith}
 use lib.IntN.{ℤ, pos, _+ℤ_, +ℤ-idl, +ℤ-idr, +ℤ-assoc, +ℤ-comm}
+use Rattle.exact.proofs.Difference.{crosswise}
 use Rattle.limits.specs.Ranges.{dayHours}
 use Rattle.shares.specs.Shares.{sum}
 use Rattle.collecting.specs.Directions.{Direction, Upward, Downward, hoursFrom, dayOf}
 use Rattle.paying.specs.Columns.{each}
 use Rattle.payout.specs.PayOut.{areasTo}
-
--- two sums of two, taken crosswise
-pub crosswise : (a b c d : ℤ) → (a +ℤ b) +ℤ (c +ℤ d) ≡ (a +ℤ c) +ℤ (b +ℤ d)
-crosswise a b c d =
-    +ℤ-assoc a b (c +ℤ d)
-    ∙ ap (λ z. a +ℤ z) (sym (+ℤ-assoc b c d) ∙ ap (λ z. z +ℤ d) (+ℤ-comm b c) ∙ +ℤ-assoc c b d)
-    ∙ sym (+ℤ-assoc a c (b +ℤ d))
 
 pub sum-append : (xs ys : List ℤ) → sum (xs ++ ys) ≡ sum xs +ℤ sum ys
 unfolding sum

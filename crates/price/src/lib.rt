@@ -2,14 +2,18 @@
 use units::CentsOver100000;
 use units::MarketPrice;
 use units::Quantity;
+use units::RaisedCentsOver100000;
+use units::RaisedPrice;
 ghost use mathlib.Core.Path.{_≡_};
 ghost use Prim.Native.Nat.{_+_, _*_, _≤_, _<_, _^_};
-ghost use lib.IntN.{natAbs};
 ghost use lib.ListN.{length};
-ghost use Rattle.limits.specs.Ranges.{mostQuantity, plainPoints, plainIntervals};
-ghost use Rattle.price.specs.Price.{emptyAverage, withInterval, averageOf, averagePrice, loadWeightedWithin, loadWeighted, answerNumber};
+ghost use mir.Syntax.{w64};
+ghost use mir.Val.{SFits};
+ghost use Rattle.limits.specs.Ranges.{provedPoints, provedIntervals};
+ghost use Rattle.price.specs.Price.{averageOf, averagePrice, loadWeightedWithin, loadWeighted, answerNumber};
 ghost use Rattle.price.specs.Price.{answerPlace, answerPrice, answerCount};
 ghost use Rattle.price.specs.Ranged.{Ranged};
+ghost use Rattle.price.specs.Sums.{emptySums, withRaised, averageFrom};
 
 // The sum of quantity × price over the intervals whose price is present, the sum of the same quantities, and how many these intervals are.
 pub struct Average {
@@ -25,55 +29,72 @@ pub enum PriceAnswer {
     NoQuantity { count: u32 },
 }
 
-impl Average {
-    pub fn empty() -> Average
-        ensures { λ r. ⌜ r ≡ emptyAverage ⌝ }
+// What an average is built up from, one interval at a time. A price is taken 2^31 higher: then no product is below 0, and a missing price, the lowest of all words,
+// comes to 0. So every interval is added alike, without a branch, and the compiler takes several at a time.
+pub struct Sums {
+    pub value: RaisedCentsOver100000,
+    pub quantity: Quantity,
+    pub count: u32,
+}
+
+impl Sums {
+    pub fn empty() -> Sums
+        ensures { λ r. ⌜ r ≡ emptySums ⌝ }
     {
-        Average {
-            value: CentsOver100000(0),
+        Sums {
+            value: RaisedCentsOver100000(0),
             quantity: Quantity(0),
             count: 0,
         }
     }
 
     // One interval more: a missing price leaves its quantity out too.
-    pub fn with_interval(mut self, quantity: u32, price: u32) -> Average
-        requires { ⌜ (natAbs (self .value .0) ≤ 2 ^ 62) × (quantity ≤ mostQuantity) ⌝ }
+    pub fn with_interval(mut self, quantity: u32, price: u32) -> Sums
+        requires { ⌜ self .value .0 + 4294967295 * quantity < 2 ^ 64 ⌝ }
         requires { ⌜ (self .quantity .0 + quantity < 2 ^ 32) × (self .count + 1 < 2 ^ 32) ⌝ }
-        ensures { λ r. ⌜ r ≡ withInterval self quantity price ⌝ }
+        ensures { λ r. ⌜ r ≡ withRaised self quantity price ⌝ }
     {
-        if price == limits::MISSING_PRICE {
-            return self;
-        }
         let value = self.value;
         let sum = self.quantity;
-        let more = Quantity(quantity);
-        let price = MarketPrice(words::signed(price));
-        self.value = value.plus(more.small_at_market_price(price));
-        self.quantity = sum.plus(more);
-        self.count += 1;
+        let raised = RaisedPrice(std::num::wrapping_add_u32(price, limits::MISSING_PRICE));
+        self.value = value.plus(Quantity(quantity).at_raised_price(raised));
+        self.quantity = sum.plus(Quantity(hour::counted(quantity, price)));
+        self.count += hour::present(price);
         self
+    }
+
+    pub fn average(self) -> Average
+        requires { ⌜ SFits w64 (averageFrom self .value .0) ⌝ }
+        ensures { λ r. ⌜ r ≡ averageFrom self ⌝ }
+    {
+        let value = self.value;
+        let quantity = self.quantity;
+        Average {
+            value: value.lowered(quantity),
+            quantity,
+            count: self.count,
+        }
     }
 }
 
 // The average of the first n intervals.
 fn averaged(pairs: &[u8], n: usize) -> Average
-    requires { ⌜ (n ≤ plainIntervals) × (8 * n ≤ length (now pairs)) ⌝ }
+    requires { ⌜ (n ≤ provedIntervals) × (8 * n ≤ length (now pairs)) ⌝ }
     requires { ⌜ Ranged (now pairs) n ⌝ }
     ensures { λ r. ⌜ r ≡ averageOf (now (pairs .entry)) n ⌝ }
 {
-    let mut average = Average::empty();
+    let mut sums = Sums::empty();
     let mut i: usize = 0;
     while i < n {
-        average = average.with_interval(words::word(pairs, 2 * i), words::word(pairs, 2 * i + 1));
+        sums = sums.with_interval(words::word(pairs, 2 * i), words::word(pairs, 2 * i + 1));
         i += 1;
     }
-    average
+    sums.average()
 }
 
 // The price of n intervals whose numbers are in range: of a file that the check accepts, or past the call's own check.
 pub fn average_price(pairs: &[u8], n: usize) -> PriceAnswer
-    requires { ⌜ (n ≤ plainIntervals) × (8 * n ≤ length (now pairs)) ⌝ }
+    requires { ⌜ (n ≤ provedIntervals) × (8 * n ≤ length (now pairs)) ⌝ }
     requires { ⌜ Ranged (now pairs) n ⌝ }
     ensures { λ r. ⌜ r ≡ averagePrice (now (pairs .entry)) n ⌝ }
 {
@@ -93,7 +114,7 @@ pub fn average_price(pairs: &[u8], n: usize) -> PriceAnswer
 
 // The price of an hour with one to `most` load points.
 fn load_weighted_within(most: usize, pairs: &[u8]) -> PriceAnswer
-    requires { ⌜ most ≤ plainPoints ⌝ }
+    requires { ⌜ most ≤ provedPoints ⌝ }
     ensures { λ r. ⌜ r ≡ loadWeightedWithin most (now (pairs .entry)) ⌝ }
 {
     if pairs.len() % 96 != 0 {

@@ -1,4 +1,5 @@
 // The test of a record of failing days: whether accepted entries leave it, and whether a trading day comes after its last day.
+use dayfile::Told;
 use recording::Place;
 use recording::Record;
 use verdict::Verdict;
@@ -10,6 +11,8 @@ ghost use Rattle.limits.specs.Editions.{mostHeld};
 ghost use Rattle.verdict.specs.Verdict.{numberOf};
 ghost use Rattle.calendar.specs.Date.{realDate};
 ghost use Rattle.calendar.specs.DayNumber.{dayNumber};
+ghost use Rattle.contents.specs.File.{areasOf};
+ghost use Rattle.dayfile.specs.Plain.{PlainTold};
 ghost use Rattle.recording.specs.Record.{entries};
 ghost use Rattle.record_check.specs.Left.{marksEnd, placeLeft, placesLeft, placeEmpty, unusedEmpty, lastLeft, recordLeft, recordRule, admitRule, daysBetween};
 
@@ -134,15 +137,19 @@ fn judge(given: Record, date: u32) -> Verdict
     Verdict::Accepted
 }
 
-// The check of a day file, then the record judged for its trading day.
-pub fn admit(given: Record, file: &[u8]) -> Verdict
-    ensures { λ r. ⌜ r ≡ admitRule given (now (file .entry)) ⌝ }
+// The check of a day file, which tells its plain areas, then the record judged for its trading day.
+pub fn admit(given: Record, file: &[u8]) -> Told
+    ensures { λ r. ⌜ r .answer ≡ admitRule given (now (file .entry)) ⌝ }
+    ensures { λ r. ⌜ (numberOf (r .answer) ≡ 0 → PlainTold (r .plain) (now (file .entry)) (areasOf (now (file .entry)))) ⌝ }
 {
-    let v = dayfile::check(file);
-    if verdict::number(v) != 0 {
-        return v;
+    let told = dayfile::checked(file);
+    let first = told.answer;
+    if verdict::number(first) != 0 {
+        return told;
     }
-    judge(given, words::word(file, 1))
+    let plain = told.plain;
+    let answer = judge(given, words::word(file, 1));
+    Told { answer, plain }
 }
 
 // The calendar days between the last day entered and a trading day after it.

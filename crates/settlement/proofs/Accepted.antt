@@ -7,9 +7,9 @@ use lib.ListN.{length, getD, drop}
 use lib.IntN.{ℤ}
 use borrow.Author.Tests.{eq-eqb, ne-eqb, lt-ltb, le-ltb}
 use Rattle.limits.specs.declared.Limits.{Limits}
-use Rattle.limits.specs.Ranges.{plainPoints}
+use Rattle.limits.specs.Ranges.{provedPoints}
 use Rattle.limits.specs.Editions.{limitsOf}
-use Rattle.limits.proofs.Editions.{plain}
+use Rattle.limits.proofs.Editions.{proved}
 use Rattle.verdict.specs.declared.Verdict.{Verdict}
 use Rattle.verdict.specs.Verdict.{numberOf}
 use Rattle.verdict.specs.First.{_orElse_}
@@ -36,12 +36,12 @@ module _ (file : List ℕ) (accepted : numberOf (checkOf file) ≡ 0) where
   pub sound-file : SoundFile file
   sound-file =
       let head = file-head limits file within in
-      let p = plain (editionOf file) in
+      let p = proved (editionOf file) in
       record {
         few = omega (arith, head .few, p .areas);
         room = head .room;
         inside = λ k h. omega (arith, file-entry limits file within k h .inside);
-        body = λ k h. sound-more (limits .points) (bodyAt file k) (file-sound limits file within k h) plainPoints (p .points);
+        body = λ k h. sound-more (limits .points) (bodyAt file k) (file-sound limits file within k h) provedPoints (p .points);
       }
 
   -- the file's own days are in range

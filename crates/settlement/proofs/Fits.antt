@@ -9,7 +9,7 @@ use lib.Dec.{eqb}
 use lib.IntN.{ℤ, natAbs}
 use Rattle.exact.specs.Total.{total}
 use Rattle.words.specs.Bytes.{wordsFrom}
-use Rattle.limits.specs.Ranges.{dayHours, mostAmount, mostDemand, plainPoints}
+use Rattle.limits.specs.Ranges.{dayHours, mostAmount, mostDemand, provedPoints}
 use Rattle.encoding.specs.Encoding.{AllFit}
 use Rattle.encoding.proofs.Decoding.{fit-none, fit-cons, fit-append}
 use Rattle.body.specs.Layout.{kindOf, coordinatorsOf, demandsAt}
@@ -32,7 +32,7 @@ charges-fit kind amount body from count h d = by (eqb kind 1) refl
     by true e = rw e (shares-fit amount (wordsFrom body from count) (share-fits amount _ h d))
     by false e = rw e (fit-cons amount [] (amount-fits amount h) fit-none)
 
-hour-fits : (terms : Terms) (body : List ℕ) (h : ℕ) → TermsKept terms → Sound plainPoints body → h < dayHours → AllFit (hourBlock terms body h)
+hour-fits : (terms : Terms) (body : List ℕ) (h : ℕ) → TermsKept terms → Sound provedPoints body → h < dayHours → AllFit (hourBlock terms body h)
 unfolding hourBlock amountsOf
 hour-fits terms body h kept sound below =
     let r = amounts-ranged terms body h (amountsOf terms body h) refl sound below kept in
@@ -41,7 +41,7 @@ hour-fits terms body h kept sound below =
     (fit-cons _ _ (amount-fits _ (r .surcharge)) (fit-cons _ _ (amount-fits _ (r .credit))
     (charges-fit (kindOf body) (amountAt terms body h) body (demandsAt body h) (coordinatorsOf body) a (demands-ranged body sound h below .sum))))))
 
-module _ (terms : Terms) (body : List ℕ) (kept : TermsKept terms) (sound : Sound plainPoints body) where
+module _ (terms : Terms) (body : List ℕ) (kept : TermsKept terms) (sound : Sound provedPoints body) where
   hours-fit : (n : ℕ) → n ≤ dayHours → AllFit (hoursBlock terms body n)
   unfolding hoursBlock
   hours-fit zero h = fit-none

@@ -7,7 +7,7 @@ use native.Mathlib.Nat.{eq-or-lt-of-le, le-of-suc-le-suc, le-refl, add-zero}
 use native.Mathlib.Omega.{arith}
 use lib.IntN.{ℤ, pos}
 use lib.ListN.{length, getD, drop}
-use Rattle.limits.specs.Ranges.{dayHours, plainPoints}
+use Rattle.limits.specs.Ranges.{dayHours, provedPoints}
 use Rattle.verdict.specs.Verdict.{numberOf}
 use Rattle.body.specs.Layout.{kindOf, coordinatorsOf, demandsAt}
 use Rattle.body.specs.Kept.{Sound}
@@ -27,7 +27,7 @@ use Rattle.settlement.proofs.Areas.{statement-length}
 use Rattle.settlement.proofs.Room.{check-accepts}
 use Rattle.settlement.proofs.Stands.{Stands, within, followed, last, taken, number}
 
-hour-in-block : (terms : Terms) (body : List ℕ) → Sound plainPoints body → (n : ℕ) → n ≤ dayHours → (h : ℕ) → h < n
+hour-in-block : (terms : Terms) (body : List ℕ) → Sound provedPoints body → (n : ℕ) → n ≤ dayHours → (h : ℕ) → h < n
     → Stands (hourBlock terms body h) (hoursBlock terms body n) (h * hourNumbers (coordinatorsOf body))
 unfolding hoursBlock
 hour-in-block terms body sound zero p h below = absurd (omega arith)

@@ -6,12 +6,11 @@ ghost use mathlib.Core.Path.{_≡_};
 ghost use mathlib.Core.List.{_++_};
 ghost use Prim.Native.Nat.{_*_, _≤_, _<_};
 ghost use lib.ListN.{length, drop};
-ghost use Rattle.limits.specs.Ranges.{mostCoordinators, plainPoints};
-ghost use mathlib.Core.Bool.{not, _&&_};
-ghost use lib.Dec.{eqb};
-ghost use Rattle.body.specs.Layout.{kindOf, coordinatorsOf};
+ghost use Rattle.limits.specs.Ranges.{mostCoordinators, provedPoints};
+ghost use Rattle.body.specs.Layout.{coordinatorsOf};
 ghost use Rattle.body.specs.Kept.{Sound};
-ghost use Rattle.marking.specs.Marked.{markedIn};
+ghost use Rattle.body.specs.Plain.{plainArea};
+ghost use Rattle.dayfile.specs.Plain.{PlainTold};
 ghost use Rattle.contents.specs.File.{areasOf, peakOf};
 ghost use Rattle.surcharge.specs.Ranges.{TermsKept};
 ghost use Rattle.amounts.specs.Ranges.{AtHour};
@@ -62,7 +61,7 @@ fn terms_of(peak: u32, days: &[u32], k: usize, body: &[u8]) -> Terms
 
 // The statement of an area at the front of its part. It is written as bytes into `room` first, so that what writes an area stands once.
 fn area_into_numbers(terms: Terms, body: &[u8], room: &mut [u8], statement: &mut [i64])
-    requires { ⌜ (TermsKept terms) × (Sound plainPoints (now body)) ⌝ }
+    requires { ⌜ (TermsKept terms) × (Sound provedPoints (now body)) ⌝ }
     requires { ⌜ (8 * areaNumbers mostCoordinators ≤ length (now room)) × (areaNumbers (coordinatorsOf (now body)) ≤ length (now statement)) ⌝ }
     ensures { λ _. ⌜ now (statement .exit) ≡ block terms (now (body .entry))
         ++ drop (areaNumbers (coordinatorsOf (now (body .entry)))) (now (statement .entry)) ⌝ }
@@ -105,7 +104,8 @@ fn chargeable_hour(terms: Terms, day: Day, body: &[u8], h: usize, at: usize) -> 
     if 0 < demand {
         return true;
     }
-    let amount = amounts::amount_of(amounts::hour_amounts(terms, day, body, h, at));
+    let price = amounts::needed_price(terms, day, body, h, at);
+    let amount = amounts::amount_of(amounts::hour_amounts(terms, day, price, body, h, at));
     shares::shareable(amount.0, demand)
 }
 
@@ -135,20 +135,9 @@ fn check_hour(terms: Terms, day: Day, start: usize, body: &[u8], h: usize, at: u
     check_charge(terms, day, start, body, h, at)
 }
 
-// Whether nothing of an area can be refused, seen without its prices: only a marked area needs one, and only CISO can lack demand.
-fn never_refused(body: &[u8]) -> bool
-    requires { ⌜ Sound plainPoints (now body) ⌝ }
-    ensures { λ r. ⌜ r ≡ (not (eqb (kindOf (now (body .entry))) 1) && not (markedIn (now (body .entry)))) ⌝ }
-{
-    if words::word(body, 0) == 1 {
-        return false;
-    }
-    !marking::marked(body)
-}
-
 // The first refusal among the hours of an area, one by one.
 fn check_hours(terms: Terms, start: usize, body: &[u8]) -> Verdict
-    requires { ⌜ (TermsKept terms) × ((Sound plainPoints (now body)) × (start < 4294967296)) ⌝ }
+    requires { ⌜ (TermsKept terms) × ((Sound provedPoints (now body)) × (start < 4294967296)) ⌝ }
     ensures { λ r. ⌜ r ≡ hoursRefusal terms start (now (body .entry)) ⌝ }
 {
     let day = amounts::day_facts(terms, body);
@@ -167,20 +156,28 @@ fn check_hours(terms: Terms, start: usize, body: &[u8]) -> Verdict
     Verdict::Accepted
 }
 
-// The first refusal among the hours of an area.
-fn check_area(terms: Terms, start: usize, body: &[u8]) -> Verdict
-    requires { ⌜ (TermsKept terms) × ((Sound plainPoints (now body)) × (start < 4294967296)) ⌝ }
+// The first refusal among the hours of an area: none of a plain one.
+fn check_area(plain: bool, terms: Terms, start: usize, body: &[u8]) -> Verdict
+    requires { ⌜ (TermsKept terms) × ((Sound provedPoints (now body)) × (start < 4294967296)) ⌝ }
+    requires { ⌜ plain ≡ plainArea (now body) ⌝ }
     ensures { λ r. ⌜ r ≡ hoursRefusal terms start (now (body .entry)) ⌝ }
 {
-    if never_refused(body) {
+    if plain {
         return Verdict::Accepted;
     }
     check_hours(terms, start, body)
 }
 
 // The first refusal among areas and hours in order.
-fn check_areas(peak: u32, days: &[u32], file: &[u8], n: usize) -> Verdict
+fn check_areas(
+    plain: [bool; limits::PROVED_AREAS],
+    peak: u32,
+    days: &[u32],
+    file: &[u8],
+    n: usize,
+) -> Verdict
     requires { ⌜ (Settleable (now days) (now file)) × ((n ≡ areasOf (now file)) × (peak ≡ peakOf (now file))) ⌝ }
+    requires { ⌜ PlainTold plain (now file) n ⌝ }
     ensures { λ r. ⌜ r ≡ areasRefusal (listed (now (days .entry)) (now (file .entry))) (now (file .entry)) ⌝ }
 {
     let mut k: usize = 0;
@@ -188,7 +185,7 @@ fn check_areas(peak: u32, days: &[u32], file: &[u8], n: usize) -> Verdict
         let start = words::word(file, 4 + 3 * k + 1) as usize;
         let body = contents::body_at(file, k);
         let terms = terms_of(peak, days, k, body);
-        let v = check_area(terms, start, body);
+        let v = check_area(plain[k], terms, start, body);
         if verdict::number(v) != 0 {
             return v;
         }
@@ -198,8 +195,13 @@ fn check_areas(peak: u32, days: &[u32], file: &[u8], n: usize) -> Verdict
 }
 
 // Past the check: 13, then areas and hours in order, for a statement of so many numbers.
-fn answer_accepted(days: &[u32], file: &[u8], room: usize) -> Verdict
-    requires { ⌜ Settleable (now days) (now file) ⌝ }
+fn answer_accepted(
+    plain: [bool; limits::PROVED_AREAS],
+    days: &[u32],
+    file: &[u8],
+    room: usize,
+) -> Verdict
+    requires { ⌜ (Settleable (now days) (now file)) × (PlainTold plain (now file) (areasOf (now file))) ⌝ }
     ensures { λ r. ⌜ r ≡ acceptedRule (listed (now (days .entry)) (now (file .entry))) (now (file .entry)) room ⌝ }
 {
     let n = words::word(file, 2) as usize;
@@ -208,17 +210,22 @@ fn answer_accepted(days: &[u32], file: &[u8], room: usize) -> Verdict
     if room < needed {
         return Verdict::RoomTooShort { needed };
     }
-    check_areas(peak, days, file, n)
+    check_areas(plain, peak, days, file, n)
 }
 
-// Past the check, and where nothing is refused the statement. `days` has a d for each area, or is empty, and each area has its own.
-pub fn settle_accepted(days: &[u32], file: &[u8], statement: &mut [i64]) -> Verdict
-    requires { ⌜ Settleable (now days) (now file) ⌝ }
+// Past the check, which told the plain areas, and where nothing is refused the statement. `days` has a d for each area, or is empty, and each area has its own.
+pub fn settle_accepted(
+    plain: [bool; limits::PROVED_AREAS],
+    days: &[u32],
+    file: &[u8],
+    statement: &mut [i64],
+) -> Verdict
+    requires { ⌜ (Settleable (now days) (now file)) × (PlainTold plain (now file) (areasOf (now file))) ⌝ }
     ensures { λ r. ⌜ r ≡ acceptedRule (listed (now (days .entry)) (now (file .entry))) (now (file .entry)) (length (now (statement .entry))) ⌝ }
     ensures { λ r. ⌜ now (statement .exit)
         ≡ afterWith (listed (now (days .entry)) (now (file .entry))) (now (file .entry)) r (now (statement .entry)) ⌝ }
 {
-    let v = answer_accepted(days, file, statement.len());
+    let v = answer_accepted(plain, days, file, statement.len());
     if verdict::number(v) != 0 {
         return v;
     }
@@ -232,12 +239,14 @@ pub fn settle_accepted(days: &[u32], file: &[u8], statement: &mut [i64]) -> Verd
 pub fn answer(file: &[u8], room: usize) -> Verdict
     ensures { λ r. ⌜ r ≡ settleOf (now (file .entry)) room ⌝ }
 {
-    let v = dayfile::check(file);
+    let told = dayfile::checked(file);
+    let v = told.answer;
     if verdict::number(v) != 0 {
         return v;
     }
+    let plain = told.plain;
     let own = [0u32; 0];
-    answer_accepted(&own, file, room)
+    answer_accepted(plain, &own, file, room)
 }
 
 // Checks the whole file, then settles it into `statement`: area after area, 24 hours of its amounts and K charges each. A
@@ -246,10 +255,12 @@ pub fn settle(file: &[u8], statement: &mut [i64]) -> Verdict
     ensures { λ r. ⌜ r ≡ settleOf (now (file .entry)) (length (now (statement .entry))) ⌝ }
     ensures { λ r. ⌜ now (statement .exit) ≡ after r (now (file .entry)) (now (statement .entry)) ⌝ }
 {
-    let v = dayfile::check(file);
+    let told = dayfile::checked(file);
+    let v = told.answer;
     if verdict::number(v) != 0 {
         return v;
     }
+    let plain = told.plain;
     let own = [0u32; 0];
-    settle_accepted(&own, file, statement)
+    settle_accepted(plain, &own, file, statement)
 }

@@ -54,7 +54,7 @@ pub struct Rates {
 }
 
 // Up to so many coordinators fewer divisions are left than the rates take: the last one's share needs none.
-const DIVIDED_COORDINATORS: usize = 2;
+const DIVIDED_COORDINATORS: usize = 8;
 
 fn no_rates() -> Rates
     ensures { λ r. ⌜ r .divided ≡ true ⌝ }

@@ -7,7 +7,7 @@ use native.Mathlib.Nat.{le-refl}
 use native.Mathlib.Omega.{arith}
 use lib.Dec.{eqb}
 use borrow.Author.Tests.{eq-eqb}
-use Rattle.limits.specs.Ranges.{dayHours, mostCoordinators, plainPoints}
+use Rattle.limits.specs.Ranges.{dayHours, mostCoordinators, provedPoints}
 use Rattle.body.specs.Layout.{kindOf, coordinatorsOf, hourAt}
 use Rattle.body.specs.Check.{mostOfKind}
 use Rattle.body.specs.Kept.{Sound}
@@ -21,7 +21,7 @@ most-few kind = by (eqb kind 0)
     by true = omega arith
     by false = omega arith
 
-module _ (body : List ℕ) (sound : Sound plainPoints body) where
+module _ (body : List ℕ) (sound : Sound provedPoints body) where
   pub count-few : coordinatorsOf body ≤ mostCoordinators
   count-few = omega (arith, sound .coordinators always .1, most-few (kindOf body))
 
@@ -31,8 +31,8 @@ module _ (body : List ℕ) (sound : Sound plainPoints body) where
       record {
         some = k .0;
         few = count-few;
-        room = omega (arith, hour-inside plainPoints body sound h below);
-        sum = hour-demand plainPoints body sound h below (coordinatorsOf body) (le-refl _);
+        room = omega (arith, hour-inside provedPoints body sound h below);
+        sum = hour-demand provedPoints body sound h below (coordinatorsOf body) (le-refl _);
         alone = λ other.
             let z : kindOf body ≡ 0 = omega (arith, sound .kind always .0, other) in
             omega (arith, k .0, simp (eq-eqb (kindOf body) 0 z) at (k .1));

@@ -6,7 +6,7 @@ use native.Mathlib.Nat.{suc-mul, zero-mul, mul-le-mul-right}
 use native.Mathlib.Numerals.{add-one}
 use native.Mathlib.Omega.{arith}
 use lib.ListN.{length, length-append}
-use Rattle.limits.specs.Ranges.{dayHours, plainPoints}
+use Rattle.limits.specs.Ranges.{dayHours, provedPoints}
 use Rattle.body.specs.Layout.{kindOf, coordinatorsOf, demandsAt}
 use Rattle.body.specs.Kept.{Sound}
 use Rattle.surcharge.specs.declared.Terms.{Terms}
@@ -15,7 +15,7 @@ use Rattle.statement.specs.Block.{hourNumbers, hourBlock, hoursBlock}
 use Rattle.statement.proofs.Charges.{charges-length}
 use Rattle.statement.proofs.Demands.{demands-ranged}
 
-module _ (terms : Terms) (body : List ℕ) (sound : Sound plainPoints body) where
+module _ (terms : Terms) (body : List ℕ) (sound : Sound provedPoints body) where
   module _ (h : ℕ) (below : h < dayHours) where
     pub hour-length : length (hourBlock terms body h) ≡ hourNumbers (coordinatorsOf body)
     unfolding hourBlock

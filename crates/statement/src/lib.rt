@@ -9,7 +9,7 @@ ghost use lib.IntN.{natAbs};
 ghost use lib.ListN.{length, drop};
 ghost use Rattle.exact.specs.Total.{total};
 ghost use Rattle.words.specs.Bytes.{wordsFrom};
-ghost use Rattle.limits.specs.Ranges.{mostDemand, mostCoordinators, mostAmount, plainPoints};
+ghost use Rattle.limits.specs.Ranges.{mostDemand, mostCoordinators, mostAmount, provedPoints};
 ghost use Rattle.encoding.specs.Encoding.{encoded};
 ghost use Rattle.body.specs.Layout.{kindOf, pointsOf, coordinatorsOf};
 ghost use Rattle.body.specs.Kept.{Sound};
@@ -85,7 +85,8 @@ fn write_hour(terms: Terms, day: Day, body: &[u8], h: usize, at: usize, block: &
     ensures { λ _. ⌜ now (block .exit) ≡ encoded (hourBlock terms (now (body .entry)) h)
         ++ drop (8 * hourNumbers (coordinatorsOf (now (body .entry)))) (now (block .entry)) ⌝ }
 {
-    let amounts = amounts::hour_amounts(terms, day, body, h, at);
+    let price = amounts::needed_price(terms, day, body, h, at);
+    let amounts = amounts::hour_amounts(terms, day, price, body, h, at);
     put_amounts(amounts, block);
     let amount = amounts::amount_of(amounts);
     hour_charges(amount.0, body, at, &mut block[8 * AMOUNTS_SHOWN..]);
@@ -93,7 +94,7 @@ fn write_hour(terms: Terms, day: Day, body: &[u8], h: usize, at: usize, block: &
 
 // The 24 hours of an area at the front of its part of the statement, each hour lent its own part of that.
 pub fn write_area(terms: Terms, body: &[u8], statement: &mut [u8])
-    requires { ⌜ (TermsKept terms) × (Sound plainPoints (now body)) ⌝ }
+    requires { ⌜ (TermsKept terms) × (Sound provedPoints (now body)) ⌝ }
     requires { ⌜ 8 * areaNumbers (coordinatorsOf (now body)) ≤ length (now statement) ⌝ }
     ensures { λ _. ⌜ now (statement .exit) ≡ encoded (block terms (now (body .entry)))
         ++ drop (8 * areaNumbers (coordinatorsOf (now (body .entry)))) (now (statement .entry)) ⌝ }

@@ -1,7 +1,7 @@
 // The units of docs/RULES.md, section 1, each a struct of one number, so that megawatts, dollars a megawatt-hour and dollars stay apart.
 // A quantity times a price is an amount over that product's own denominator; nothing here adds one unit to another.
 ghost use mathlib.Core.Path.{_≡_};
-ghost use Prim.Native.Nat.{_+_, _<_, _^_};
+ghost use Prim.Native.Nat.{_+_, _*_, _<_, _^_};
 ghost use lib.IntN.{pos, _+ℤ_, _-ℤ_, _*ℤ_};
 ghost use mir.Syntax.{w32, w64};
 ghost use mir.Val.{SFits};
@@ -16,6 +16,12 @@ pub struct HubPrice(pub i32);
 
 // $0.0001 per MWh.
 pub struct MarketPrice(pub i32);
+
+// A market price as a word, 2^31 higher: never below 0, and 0 where it is the lowest of all words.
+pub struct RaisedPrice(pub u32);
+
+// A quantity at such a price: cents, over 100,000.
+pub struct RaisedCentsOver100000(pub u64);
 
 // Whole cents, signed.
 pub struct Cents(pub i64);
@@ -52,12 +58,31 @@ impl Quantity {
         CentsOver100000(exact::product(self.0, price.0))
     }
 
-    // The same of a quantity that fits a signed word, as that of an interval does.
-    pub fn small_at_market_price(self, price: MarketPrice) -> CentsOver100000
-        requires { ⌜ self .0 < 2 ^ 31 ⌝ }
-        ensures { λ r. ⌜ r .0 ≡ pos (self .0) *ℤ price .0 ⌝ }
+    pub fn at_raised_price(self, price: RaisedPrice) -> RaisedCentsOver100000
+        ensures { λ r. ⌜ r .0 ≡ self .0 * price .0 ⌝ }
     {
-        CentsOver100000(exact::signed_product(self.0 as i32, price.0))
+        RaisedCentsOver100000((self.0 as u64) * (price.0 as u64))
+    }
+}
+
+impl RaisedCentsOver100000 {
+    pub fn plus(self, more: RaisedCentsOver100000) -> RaisedCentsOver100000
+        requires { ⌜ self .0 + more .0 < 2 ^ 64 ⌝ }
+        ensures { λ r. ⌜ r .0 ≡ self .0 + more .0 ⌝ }
+    {
+        RaisedCentsOver100000(self.0 + more.0)
+    }
+
+    // What that quantity comes to at the prices themselves.
+    pub fn lowered(self, quantity: Quantity) -> CentsOver100000
+        requires { ⌜ SFits w64 (pos (self .0) -ℤ pos (2147483648 * quantity .0)) ⌝ }
+        ensures { λ r. ⌜ r .0 ≡ pos (self .0) -ℤ pos (2147483648 * quantity .0) ⌝ }
+    {
+        let raise = 2147483648 * (quantity.0 as u64);
+        if self.0 < raise {
+            return CentsOver100000(0 - (raise - self.0) as i64);
+        }
+        CentsOver100000((self.0 - raise) as i64)
     }
 }
 
@@ -72,13 +97,6 @@ impl CentsOver1000 {
 }
 
 impl CentsOver100000 {
-    pub fn plus(self, more: CentsOver100000) -> CentsOver100000
-        requires { ⌜ SFits w64 (self .0 +ℤ more .0) ⌝ }
-        ensures { λ r. ⌜ r .0 ≡ self .0 +ℤ more .0 ⌝ }
-    {
-        CentsOver100000(self.0 + more.0)
-    }
-
     // Times a multiplier of so many four-hundredths.
     pub fn scaled(self, multiplier: u32) -> CentsOver40000000
         requires { ⌜ SFits w64 (self .0 *ℤ pos multiplier) ⌝ }

@@ -6,7 +6,7 @@ use mathlib.Core.Logic.{dite}
 use native.Mathlib.Decide.{ℕ-discrete}
 use native.Mathlib.Omega.{arith}
 use native.Mathlib.Numerals.{add-one}
-use native.Mathlib.Nat.{add-zero, zero-add}
+use native.Mathlib.Nat.{add-zero, sub-zero, zero-add}
 use lib.Dec.{eqb}
 use borrow.Author.Tests.{eq-eqb, ne-eqb, eqb-true, eqb-false}
 use Rattle.verdict.specs.declared.Verdict.{Verdict}
@@ -136,6 +136,12 @@ unfolding scan
 unroll part k n h =
     let e : n - k ≡ suc (n - (k + 1)) = omega arith in
     rw (e, add-one k)
+
+-- a loop may begin behind parts that accept
+pub scan-past : (part : ℕ → Verdict) (k n : ℕ) → k ≤ n → ((i : ℕ) → i < k → numberOf (part i) ≡ 0) → scan part 0 n ≡ scan part k (n - k)
+scan-past part zero n h each = rw sub-zero
+scan-past part (suc k) n h each =
+    scan-past part k n (omega arith) (λ i p. each i (omega arith)) ∙ unroll part k n h ∙ or-next _ _ (each k (omega arith)) ∙ rw add-one
 
 pub loop-stop : (whole : Verdict) (part : ℕ → Verdict) (k n : ℕ) (v : Verdict) (r : ℕ) → whole ≡ scan part k (n - k) → k < n
     → v ≡ part k → r ≡ numberOf v → (r ≡ 0 → ⊥) → v ≡ whole

@@ -6,8 +6,7 @@ use mathlib.Core.Path.{_≡_, ap}
 use native.Mathlib.Decide.{decLt}
 use native.Mathlib.Omega.{arith}
 use lib.Dec.{ltb}
-use lib.IntN.{ℤ, pos, negsuc, natAbs, subℕ, _-ℤ_}
-use lib.Signed.{natAbs-le}
+use lib.IntN.{ℤ, pos, negsuc, subℕ, _-ℤ_}
 use borrow.Author.Tests.{lt-ltb, le-ltb}
 use mir.Syntax.{w32}
 use mir.Val.{SFits}
@@ -41,6 +40,3 @@ shifted w u l e =
     (by-half (λ z. subℕ u 2147483648 ≡ z) w l
     (λ h. sub-ind u 2147483648 (λ z. z ≡ pos w) (λ k. absurd (omega arith)) (λ k. ap pos (omega arith)))
     (λ h. sub-ind u 2147483648 (λ z. z ≡ negsuc (4294967295 - w)) (λ k. ap negsuc (omega arith)) (λ k. absurd (omega arith))))
-
-pub signed-within : (w : ℕ) → w < 4294967296 → natAbs (signedOf w) ≤ 2147483648
-signed-within w l = natAbs-le (signedOf w) (signed-fits w l .sfits)

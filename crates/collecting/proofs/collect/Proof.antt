@@ -10,7 +10,7 @@ use Rattle.exact.proofs.Filling.{Filling, fill-start, fill-end}
 use Rattle.exact.proofs.Machine.{got}
 use Rattle.body.specs.Layout.{hourStart, hourAt, pointsOf, coordinatorsOf}
 use Rattle.body.proofs.Kept.{sound-size, hour-inside}
-use Rattle.amounts.specs.Ranges.{AmountsRanged}
+use Rattle.amounts.specs.Ranges.{AtHour, AmountsRanged}
 use Rattle.amounts.proofs.AmountSizes.{amount-back, amounts-ranged}
 use Rattle.collecting.specs.Directions.{amountIn, hoursFrom, dayOf}
 use Rattle.collecting.proofs.Hours.{hour-stored, hours-done}
@@ -37,7 +37,7 @@ room c = omega (arith, c .before .loop .inv .4 .kept, start (c .before) .pre .1 
 
 ranged : (c : tie.After-hour-amounts Inv-loop μ-loop) → AmountsRanged (c .hour-amounts .result)
 ranged c =
-    let i = c .before in
+    let i = c .before .before in
     let s = start (i .before) in
     amounts-ranged (s .args .terms) (now (s .args .body)) (i .before .loop .h) _ (c .hour-amounts .ensures) (s .pre .1 .0) (i .loop-test .taken) (s .pre .0)
 
@@ -50,8 +50,10 @@ word-requires-2 c κs = let z = sound-size _ _ (c .before .before .before .pre .
 loop-holds : tie.Need-loop-holds Inv-loop μ-loop
 loop-holds c = (omega arith, c .first-hour .ensures, c .before .before .word .ensures, c .before .word2 .ensures, fill-start _ _)
 
-hour-amounts-requires : tie.Need-hour-amounts-requires Inv-loop μ-loop
-hour-amounts-requires c κs =
+at-hour : (c : tie.In-loop Inv-loop μ-loop) →
+    let s = start (c .before) .args in
+    AtHour (s .terms) (c .before .before .before .before .before .day-facts .result) (now (s .body)) (c .before .loop .h) (c .before .loop .at)
+at-hour c =
     let l = c .before in
     let s = start l in
     record {
@@ -62,25 +64,31 @@ hour-amounts-requires c κs =
       facts = l .before .before .before .before .day-facts .ensures;
     }
 
+needed-price-requires : tie.Need-needed-price-requires Inv-loop μ-loop
+needed-price-requires c κs = at-hour c
+
+hour-amounts-requires : tie.Need-hour-amounts-requires Inv-loop μ-loop
+hour-amounts-requires c κs = (at-hour (c .before), c .needed-price .ensures)
+
 upward-amount-requires : tie.Need-upward-amount-requires Inv-loop μ-loop
 upward-amount-requires c κs = ranged c
 
 slice-set-from-collected : tie.Need-slice-set-from-collected Inv-loop μ-loop
-slice-set-from-collected c = omega (arith, room (c .before .before))
+slice-set-from-collected c = omega (arith, room (c .before .before .before))
 
 slice-set-from-downward : tie.Need-slice-set-from-downward Inv-loop μ-loop
-slice-set-from-downward c = simp length-set (omega (arith, room (c .before .before .before .before)))
+slice-set-from-downward c = simp length-set (omega (arith, room (c .before .before .before .before .before)))
 
 next-hour-requires : tie.Need-next-hour-requires Inv-loop μ-loop
 next-hour-requires c κs =
-    let l = c .before .before .before .before .before in
+    let l = c .before .before .before .before .before .before in
     let inside = hour-inside _ _ (start l .pre .1 .0) (l .loop .h) (omega arith) in
     (l .loop .inv .1, omega (arith, here l, l .loop .inv .2, l .loop .inv .3, inside))
 
 loop-again : tie.Need-loop-again Inv-loop μ-loop
 loop-again c =
     let u = c .before .before .before in
-    let i = u .before .before in
+    let i = u .before .before .before in
     let l = i .before in
     let s = start l .args in
     let v = l .loop .inv in
@@ -116,6 +124,7 @@ collect-spec =
     (λ c. search needs)
     (λ c κs. search needs)
     loop-holds
+    needed-price-requires
     hour-amounts-requires
     upward-amount-requires
     (λ c. search needs)

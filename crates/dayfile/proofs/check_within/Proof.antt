@@ -13,7 +13,7 @@ use Rattle.verdict.specs.First.{_orElse_}
 use Rattle.verdict.proofs.Tests.{tests}
 use Rattle.verdict.proofs.First.{seq-next, seq-stop}
 use Rattle.dayfile.specs.Check.{fileHeadOf, contentsRule, bodiesRule, checkWithin}
-use Rattle.dayfile.proofs.Facts.{Head, head-kept}
+use Rattle.dayfile.proofs.Facts.{Head, head-kept, not-accepted}
 use Rattle.dayfile.proofs.check_within.Statement.{statement}
 use Rattle.dayfile.proofs.check_within.Tie as tie
 
@@ -49,46 +49,57 @@ contents-is : (c : tie.After-contents) →
     c .contents .result ≡ contentsRule (s .limits .words) f (wordAt f 2)
 contents-is c = c .contents .ensures ∙ rw (c .before .before .word .ensures)
 
-bodies-is : (c : tie.After-bodies) →
-    let s = c .before .before .before .before .before .before .before .before .before .before .before .before .before .args in
-    let f = now (s .file) in
-    c .bodies .result ≡ bodiesRule (s .limits) f (wordAt f 2)
-bodies-is c = c .bodies .ensures ∙ rw (c .before .before .before .before .before .word .ensures)
-
 returns : tie.Need-returns
 unfolding checkWithin
-returns c = let no = sym (c .before .allows .ensures) ∙ not-true _ (c .if1 .taken) in search (tests, no, needs)
+returns c =
+    let no = sym (c .before .before .allows .ensures) ∙ not-true _ (c .before .if1 .taken) in
+    (c .refused .ensures ∙ search (tests, no, needs), λ z. absurd (not-accepted (c .refused .ensures) z))
 
 returns-2 : tie.Need-returns-2
 unfolding checkWithin
-returns-2 c = search (tests, allowed (c .before), needs)
+returns-2 c =
+    let yes = allowed (c .before .before) in
+    (c .refused2 .ensures ∙ search (tests, yes, needs), λ z. absurd (not-accepted (c .refused2 .ensures) z))
 
 returns-3 : tie.Need-returns-3
 returns-3 c =
-    seq-stop _ _ _ _ _ (opened (c .before .before .before)) (c .before .before .head .ensures) (c .before .number .ensures) (c .if3 .taken)
+    let n = c .before .before in
+    let refused = c .refused3 .ensures in (
+      refused ∙ seq-stop _ _ _ _ _ (opened (n .before .before)) (n .before .head .ensures) (n .number .ensures) (c .before .if3 .taken),
+      λ z. absurd (c .before .if3 .taken (n .number .ensures ∙ ap numberOf (sym refused) ∙ z)),
+    )
 
 contents-requires : tie.Need-contents-requires
 contents-requires c κs = let h = counted (c .before .before) in let w = c .before .word .ensures in omega arith
 
 returns-4 : tie.Need-returns-4
 returns-4 c =
-    seq-stop _ _ _ _ _ (past-head (c .before .before .before .before .before)) (contents-is (c .before .before)) (c .before .number2 .ensures)
-    (c .if4 .taken)
+    let n = c .before .before in
+    let contents = n .before in
+    let refused = c .refused4 .ensures in (
+      refused ∙ seq-stop _ _ _ _ _ (past-head (contents .before .before .before)) (contents-is contents) (n .number2 .ensures) (c .before .if4 .taken),
+      λ z. absurd (c .before .if4 .taken (n .number2 .ensures ∙ ap numberOf (sym refused) ∙ z)),
+    )
 
 bodies-requires : tie.Need-bodies-requires
 bodies-requires c κs =
-    let h = counted (c .before .before .before .before .before) in
+    let e = c .before .before .before .before .before in
+    let s = e .before .before .before .before .before .before .before in
+    let h = counted e in
     let w = c .before .before .before .before .word .ensures in
     let z = ap numberOf (sym (c .before .before .contents .ensures)) ∙ sym (c .before .number2 .ensures) ∙ c .if4 .left in
-    (omega arith, (omega arith, z))
+    ((s .pre .0, omega (arith, s .pre .0 .areas)), (omega arith, (omega arith, z)))
 
 returns-5 : tie.Need-returns-5
 returns-5 c =
     let k = c .before .before .before in
-    bodies-is c ∙ sym (seq-next _ _ _ _ _ (past-head (k .before .before .before)) (contents-is k) (c .before .before .number2 .ensures)
-    (c .before .if4 .left))
+    let bodies = rw (k .before .before .word .ensures) at (c .bodies .ensures) in (
+      bodies .0 ∙ sym (seq-next _ _ _ _ _ (past-head (k .before .before .before)) (contents-is k) (c .before .before .number2 .ensures) (c .before .if4 .left)),
+      bodies .1,
+    )
 
 pub check-within-spec : {M : Type 1} → statement M
 check-within-spec =
-    tie.close (tie.spec (λ c κs. search needs) returns returns-2 (λ c κs. search needs) (λ c κs. search needs) returns-3 (λ c κs. search needs)
-    (λ c. search needs) (λ c. search needs) contents-requires (λ c κs. search needs) returns-4 bodies-requires returns-5)
+    tie.close (tie.spec (λ c κs. search needs) (λ c κs. search needs) returns (λ c κs. search needs) returns-2 (λ c κs. search needs) (λ c κs. search needs)
+    (λ c κs. search needs) returns-3 (λ c κs. search needs) (λ c. search needs) (λ c. search needs) contents-requires (λ c κs. search needs)
+    (λ c κs. search needs) returns-4 bodies-requires returns-5)

@@ -26,10 +26,10 @@ returns c =
     let r = s .given in
     let f = now (s .file) in
     c .refuse .ensures ∙ refused-so r f _ (λ q. t .if1 .taken (t .before .number .ensures ∙ q))
-    ∙ ap (answeredBy r f) (seq-stop _ _ _ _ _ (opened r f) (t .before .before .admit .ensures) (t .before .number .ensures) (t .if1 .taken))
+    ∙ ap (answeredBy r f) (seq-stop _ _ _ _ _ (opened r f) (t .before .before .admit .ensures .0) (t .before .number .ensures) (t .if1 .taken))
 
 enter-after-requires : tie.Need-enter-after-requires
-enter-after-requires c κs = sym (ap numberOf (c .before .before .admit .ensures)) ∙ sym (c .before .number .ensures) ∙ c .if1 .left
+enter-after-requires c κs = sym (ap numberOf (c .before .before .admit .ensures .0)) ∙ sym (c .before .number .ensures) ∙ c .if1 .left
 
 returns-2 : tie.Need-returns-2
 returns-2 c =
@@ -38,7 +38,7 @@ returns-2 c =
     let r = s .given in
     let f = now (s .file) in
     c .enter-after .ensures
-    ∙ ap (answeredBy r f) (sym (seq-next _ _ _ _ _ (opened r f) (e .before .before .admit .ensures) (e .before .number .ensures) (e .if1 .left)))
+    ∙ ap (answeredBy r f) (sym (seq-next _ _ _ _ _ (opened r f) (e .before .before .admit .ensures .0) (e .before .number .ensures) (e .if1 .left)))
 
 pub enter-spec : {M : Type 1} → statement M
 enter-spec =

@@ -4,7 +4,7 @@ use Prim.Native.Nat.{_+_, _*_, _≤_}
 use mathlib.Core.Path.{_≡_}
 use native.Mathlib.Nat.{mul-le-mul}
 use native.Mathlib.Omega.{arith}
-use Rattle.limits.specs.Ranges.{dayHours, mostCoordinators, plainPoints}
+use Rattle.limits.specs.Ranges.{dayHours, mostCoordinators, provedPoints}
 use Rattle.hour.specs.Layout.{hourWords}
 use Rattle.body.specs.Layout.{hourStart, hourAt}
 use Rattle.body.proofs.Kept.{hour-inside}
@@ -13,11 +13,11 @@ use Rattle.explain8080.proofs.hour_start.Tie as tie
 
 -- the words before the hour
 size : (c : tie.After-coordinators) → c .before .before .before .args .h * hourWords (c .before .load-points .result) (c .coordinators .result)
-    ≤ dayHours * hourWords plainPoints mostCoordinators
+    ≤ dayHours * hourWords provedPoints mostCoordinators
 size c =
     let s = c .before .before .before in
     let below : s .args .h ≤ dayHours = omega (arith, s .pre .1) in
-    let few : hourWords (c .before .load-points .result) (c .coordinators .result) ≤ hourWords plainPoints mostCoordinators =
+    let few : hourWords (c .before .load-points .result) (c .coordinators .result) ≤ hourWords provedPoints mostCoordinators =
     omega (arith, c .before .load-points .ensures .1, c .coordinators .ensures .1) in
     mul-le-mul below few
 

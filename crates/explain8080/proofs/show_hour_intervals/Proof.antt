@@ -2,12 +2,12 @@ use borrow.Author.Needs.{needs}
 use Prim.Native.Nat.{_+_, _*_, _-_, _≤_}
 use native.Mathlib.Omega.{arith}
 use lib.ListN.{length}
-use Rattle.limits.specs.Ranges.{plainPoints}
+use Rattle.limits.specs.Ranges.{provedPoints}
 use Rattle.explain8080.proofs.show_hour_intervals.Statement.{statement}
 use Rattle.explain8080.proofs.show_hour_intervals.Tie as tie
 
 abbrev Inv-loop : tie.InvT-loop
-Inv-loop area body h from count written₀ i₀ written i = (i ≤ count) × (count ≤ 12 * plainPoints) × (4 * (from + 2 * count) ≤ length body)
+Inv-loop area body h from count written₀ i₀ written i = (i ≤ count) × (count ≤ 12 * provedPoints) × (4 * (from + 2 * count) ≤ length body)
 
 abbrev μ-loop : tie.MeasureT-loop
 μ-loop area body h from count written₀ i₀ written i = count - i

@@ -1,14 +1,12 @@
 use denote.Ref.{now}
 use mathlib.Core.Path.{ap, _∙_}
 use Rattle.amounts.specs.Amounts.{downwardFrom}
-use Rattle.amounts.proofs.Hours.{hour-ranged}
+use Rattle.amounts.proofs.Hours.{hour-there}
 use Rattle.explaining.proofs.hour_downward.Statement.{statement}
 use Rattle.explaining.proofs.hour_downward.Tie as tie
 
 downward-quantity-requires : tie.Need-downward-quantity-requires
-downward-quantity-requires c κs =
-    let s = c .before in
-    rw (s .pre .here) (hour-ranged (now (s .args .body)) (s .pre .sound) (s .args .h) (s .pre .below))
+downward-quantity-requires c κs = hour-there (c .before .pre)
 
 returns : tie.Need-returns
 returns c = let s = c .before .before in c .downward-quantity .ensures ∙ ap (downwardFrom (now (s .args .body))) (s .pre .here)

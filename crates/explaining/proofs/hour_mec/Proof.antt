@@ -6,19 +6,15 @@ use native.Mathlib.Omega.{arith}
 use mir.Syntax.{w32}
 use Rattle.exact.proofs.Machine.{got}
 use Rattle.words.specs.Word.{wordAt, signedOf}
-use Rattle.amounts.specs.Ranges.{HourRanged}
-use Rattle.amounts.proofs.Hours.{hour-ranged}
+use Rattle.amounts.proofs.Hours.{hour-there}
 use Rattle.explaining.proofs.hour_mec.Statement.{statement}
 use Rattle.explaining.proofs.hour_mec.Tie as tie
 
-here : (s : tie.Start) → HourRanged (now (s .args .body)) (s .args .at)
-here s = rw (s .pre .here) (hour-ranged (now (s .args .body)) (s .pre .sound) (s .args .h) (s .pre .below))
-
 add-word : tie.Need-add-word
-add-word c = let r = here (c .before) .room in omega arith
+add-word c = let r = hour-there (c .before .pre) .room in omega arith
 
 word-requires : tie.Need-word-requires
-word-requires c κs = let r = here (c .before) .room in omega arith
+word-requires c κs = let r = hour-there (c .before .pre) .room in omega arith
 
 returns : tie.Need-returns
 returns c =

@@ -3,25 +3,20 @@ use denote.Ref.{now}
 use Prim.Native.Nat.{_+_}
 use mathlib.Core.Path.{ap, _∙_}
 use native.Mathlib.Omega.{arith}
-use Rattle.body.specs.Layout.{pointsOf}
 use Rattle.amounts.specs.Amounts.{priceFrom}
-use Rattle.amounts.specs.Ranges.{PairsRanged}
-use Rattle.amounts.proofs.Hours.{hour-ranged, pairs-ranged}
+use Rattle.amounts.proofs.Hours.{hour-there, pairs-there}
 use Rattle.explaining.specs.Explaining.{pricedOf}
 use Rattle.explaining.proofs.hour_price.Statement.{statement}
 use Rattle.explaining.proofs.hour_price.Tie as tie
 
-pairs : (s : tie.Start) → PairsRanged (now (s .args .body)) (pointsOf (now (s .args .body))) (s .args .at + 8)
-pairs s = rw (s .pre .here) (pairs-ranged (now (s .args .body)) (s .pre .sound) (s .args .h) (s .pre .below))
-
 word-requires : tie.Need-word-requires
-word-requires c κs = let r = hour-ranged _ (c .before .pre .sound) _ (c .before .pre .below) .room in omega arith
+word-requires c κs = let r = hour-there (c .before .pre) .room in omega arith
 
 add-hour-price : tie.Need-add-hour-price
-add-hour-price c = let r = pairs (c .before .before) .room in omega arith
+add-hour-price c = let r = pairs-there (c .before .before .pre) .room in omega arith
 
 hour-price-requires : tie.Need-hour-price-requires
-hour-price-requires c κs = rw (c .word .ensures) (pairs (c .before .before))
+hour-price-requires c κs = rw (c .word .ensures) (pairs-there (c .before .before .pre))
 
 returns : tie.Need-returns
 returns c =

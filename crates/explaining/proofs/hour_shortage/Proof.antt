@@ -9,18 +9,13 @@ use Rattle.words.specs.Word.{wordAt}
 use Rattle.body.specs.Layout.{flagOf, hourAt}
 use Rattle.surcharge.specs.declared.Day.{Day}
 use Rattle.surcharge.specs.declared.Terms.{Terms}
-use Rattle.surcharge.specs.Surcharge.{peakHour, needsPrice}
+use Rattle.surcharge.specs.Surcharge.{peakHour, needsPrice, dayOf}
 use Rattle.amounts.specs.declared.Hour.{Hour}
 use Rattle.amounts.specs.Amounts.{tierAt, dayFacts, hourFacts, priceNeeded}
-use Rattle.amounts.specs.Ranges.{HourRanged}
-use Rattle.amounts.proofs.HourAmounts.{tier-is}
-use Rattle.amounts.proofs.Hours.{hour-ranged}
+use Rattle.amounts.proofs.Hours.{hour-there}
 use Rattle.explaining.specs.Explaining.{multiplierOf, shortageAt}
 use Rattle.explaining.proofs.hour_shortage.Statement.{statement}
 use Rattle.explaining.proofs.hour_shortage.Tie as tie
-
-here : (s : tie.Start) → HourRanged (now (s .args .body)) (s .args .at)
-here s = rw (s .pre .here) (hour-ranged (now (s .args .body)) (s .pre .sound) (s .args .h) (s .pre .below))
 
 -- what the calls answer is the shortage of the hour
 module _ (terms : Terms) (day : Day) (body : List ℕ) (h at : ℕ) (starts : at ≡ hourAt body h) (is : day ≡ dayFacts terms body) where
@@ -35,20 +30,20 @@ module _ (terms : Terms) (day : Day) (body : List ℕ) (h at : ℕ) (starts : at
         needed = needed;
         quarters = quarters;
       } ≡ shortageAt terms body h
-  unfolding shortageAt priceNeeded hourFacts tierAt
-  shortage-is facts requirement flag quarters peak needed e f g i j k = rw (k, j, i, g, f, e, tier-is terms day body is, starts)
+  unfolding shortageAt priceNeeded hourFacts tierAt dayFacts dayOf
+  shortage-is facts requirement flag quarters peak needed e f g i j k = rw (k, j, i, g, f, e, is, starts)
 
 hour-facts-requires : tie.Need-hour-facts-requires
-hour-facts-requires c κs = here (c .before)
+hour-facts-requires c κs = hour-there (c .before .pre)
 
 add-word : tie.Need-add-word
-add-word c = let r = here (c .before .before .before) .room in omega arith
+add-word c = let r = hour-there (c .before .before .before .pre) .room in omega arith
 
 word-requires : tie.Need-word-requires
-word-requires c κs = let r = here (c .before .before .before) .room in omega arith
+word-requires c κs = let r = hour-there (c .before .before .before .pre) .room in omega arith
 
 word-requires-2 : tie.Need-word-requires-2
-word-requires-2 c κs = let r = here (c .before .before .before .before .before) .room in omega arith
+word-requires-2 c κs = let r = hour-there (c .before .before .before .before .before .pre) .room in omega arith
 
 returns : tie.Need-returns
 returns c =

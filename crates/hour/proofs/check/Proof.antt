@@ -1,52 +1,53 @@
 use borrow.Author.Needs.{needs}
-use borrow.Author.Tests.{eqb-true}
+use borrow.Author.Tests.{eqb-true, not-true, not-false}
 use denote.Ref.{now}
-use Prim.Native.Nat.{ℕ, _+_, _*_}
-use mathlib.Core.List.{List}
-use mathlib.Core.Path.{_≡_, refl, sym, _∙_}
-use Rattle.verdict.specs.First.{_orElse_}
-use Rattle.verdict.proofs.First.{seq-next, seq-stop}
+use mathlib.Core.Bool.{_&&_}
+use mathlib.Core.Path.{_≡_, sym, ap, _∙_}
+use lib.Bits.{bitOr}
+use lib.Dec.{eqb, leb}
+use Rattle.limits.specs.Ranges.{mostDemand}
+use Rattle.verdict.specs.Verdict.{numberOf}
 use Rattle.verdict.proofs.Accepted.{accepted-alone}
-use Rattle.hour.specs.Check.{numbersRule, intervalsRule, demandsRule, hourRule}
+use Rattle.hour.specs.Check.{hourRule}
+use Rattle.hour.specs.Plain.{plainHour}
+use Rattle.hour.proofs.Gathered.{nothing-gathered}
 use Rattle.hour.proofs.check.Statement.{statement}
 use Rattle.hour.proofs.check.Tie as tie
 
-opened : (start : ℕ) (body : List ℕ) (load count at : ℕ) → hourRule start body load count at
-    ≡ (numbersRule start body at orElse intervalsRule start body (at + 8) (12 * load) orElse demandsRule start body (at + 8 + 24 * load) count)
-unfolding hourRule
-opened start body load count at = refl
+abbrev start : tie.After-accepted → tie.Start
+start c = c .before .before .before .before .before .before
 
-past-numbers : (c : tie.Else2) →
-    let s = c .before .before .before .before .before .before .args in
-    let b = now (s .body) in
-    hourRule (s .start) b (s .load) (s .count) (s .at)
-    ≡ (intervalsRule (s .start) b (s .at + 8) (12 * s .load) orElse demandsRule (s .start) b (s .at + 8 + 24 * s .load) (s .count))
-past-numbers c =
-    let s = c .before .before .before .before .before .before .args in
-    seq-next _ _ _ _ _ (opened (s .start) (now (s .body)) (s .load) (s .count) (s .at)) (c .before .before .numbers .ensures) (c .before .number .ensures)
-    (c .if2 .left)
+-- what was gathered tells whether the rule accepts
+told : (c : tie.After-accepted) →
+    let s = start c .args in
+    c .accepted .result ≡ eqb (numberOf (hourRule (s .start) (now (s .body)) (s .load) (s .count) (s .at))) 0
+told c =
+    let s = start c .args in
+    let demand = c .before .before in
+    let intervals = demand .before in
+    let gathered = bitOr (intervals .before .numbers-gathered .result) (intervals .intervals-gathered .result .outside) in
+    c .accepted .ensures
+    ∙ ap (λ n. eqb gathered 0 && leb n mostDemand) (demand .demand-sum .ensures)
+    ∙ nothing-gathered (s .start) (now (s .body)) (s .load) (s .count) (s .at) _ _
+    (intervals .before .numbers-gathered .ensures (s .start)) (intervals .intervals-gathered .ensures .accepted (s .start))
 
 returns : tie.Need-returns
 returns c =
-    let s = c .before .before .before .args in
-    sym (accepted-alone _ (eqb-true _ _ (sym (c .before .accepted .ensures (s .start)) ∙ c .if1 .taken)))
+    let broken = c .first-broken .ensures in
+    let refused = ap (λ v. eqb (numberOf v) 0) broken ∙ sym (told (c .before .before)) ∙ not-true _ (c .before .if1 .taken) in
+    (broken, rw refused)
 
 returns-2 : tie.Need-returns-2
+unfolding plainHour
 returns-2 c =
-    let s = c .before .before .before .before .before .before .args in
-    seq-stop _ _ _ _ _ (opened (s .start) (now (s .body)) (s .load) (s .count) (s .at)) (c .before .before .numbers .ensures) (c .before .number .ensures)
-    (c .if2 .taken)
-
-returns-3 : tie.Need-returns-3
-returns-3 c =
-    seq-stop _ _ _ _ _ (past-numbers (c .before .before .before)) (c .before .before .intervals .ensures) (c .before .number2 .ensures) (c .if3 .taken)
-
-returns-4 : tie.Need-returns-4
-returns-4 c =
-    c .demands .ensures ∙ sym (seq-next _ _ _ _ _ (past-numbers (c .before .before .before .before)) (c .before .before .before .intervals .ensures)
-    (c .before .before .number2 .ensures) (c .before .if3 .left))
+    let a = c .before .before in
+    let demand = a .before .before in
+    let intervals = demand .before .intervals-gathered .ensures in (
+      sym (accepted-alone _ (eqb-true _ _ (sym (told a) ∙ not-false _ (c .before .if1 .left)))),
+      c .plain .ensures ∙ rw (intervals .counted, intervals .some, demand .demand-sum .ensures),
+    )
 
 pub check-spec : {M : Type 1} → statement M
 check-spec =
-    tie.close (tie.spec (λ c κs. search needs) returns (λ c κs. search needs) (λ c κs. search needs) returns-2 (λ c. search needs) (λ c. search needs)
-    (λ c κs. search needs) (λ c κs. search needs) returns-3 (λ c. search needs) (λ c. search needs) (λ c. search needs) (λ c κs. search needs) returns-4)
+    tie.close (tie.spec (λ c κs. search needs) (λ c. search needs) (λ c. search needs) (λ c κs. search needs) (λ c. search needs) (λ c. search needs)
+    (λ c. search needs) (λ c κs. search needs) (λ c κs. search needs) (λ c κs. search needs) returns (λ c κs. search needs) returns-2)

@@ -22,22 +22,28 @@ opened r file = refl
 
 returns : tie.Need-returns
 returns c =
-    let s = c .before .before .before .before .args in
-    seq-stop _ _ _ _ _ (opened (s .given) (now (s .file))) (c .before .before .check .ensures) (c .before .number .ensures) (c .if1 .taken)
+    let s = c .before .before .before .before .args in (
+      seq-stop _ _ _ _ _ (opened (s .given) (now (s .file))) (c .before .before .checked .ensures .0) (c .before .number .ensures) (c .if1 .taken),
+      c .before .before .checked .ensures .1,
+    )
 
 word-requires : tie.Need-word-requires
 word-requires c κs =
-    let f = now (c .before .before .before .before .args .file) in
-    let accepted = sym (ap numberOf (c .before .before .check .ensures)) ∙ sym (c .before .number .ensures) ∙ c .if1 .left in
+    let e = c .before in
+    let f = now (e .before .before .before .before .args .file) in
+    let accepted = sym (ap numberOf (e .before .before .checked .ensures .0)) ∙ sym (e .before .number .ensures) ∙ e .if1 .left in
     let r = file-head _ f (within-limits f accepted) .room in
     omega arith
 
 returns-2 : tie.Need-returns-2
 returns-2 c =
-    let e = c .before .before in
-    let s = e .before .before .before .before .args in
-    c .judge .ensures ∙ ap (recordRule (s .given)) (c .before .word .ensures)
-    ∙ sym (seq-next _ _ _ _ _ (opened (s .given) (now (s .file))) (e .before .before .check .ensures) (e .before .number .ensures) (e .if1 .left))
+    let e = c .before .before .before in
+    let checked = e .before .before .checked .ensures in
+    let s = e .before .before .before .before .args in (
+      c .judge .ensures ∙ ap (recordRule (s .given)) (c .before .word .ensures)
+          ∙ sym (seq-next _ _ _ _ _ (opened (s .given) (now (s .file))) (checked .0) (e .before .number .ensures) (e .if1 .left)),
+      λ z. checked .1 (sym (e .before .number .ensures) ∙ e .if1 .left),
+    )
 
 pub admit-spec : {M : Type 1} → statement M
 admit-spec =

@@ -6,7 +6,7 @@ use mathlib.Core.Path.{_≡_, refl, ap, _∙_}
 use native.Mathlib.Omega.{arith}
 use lib.ListN.{length, getD, set, length-set}
 use lib.Seq.{getD-set-same, getD-set-other}
-use Rattle.limits.specs.Ranges.{plainAreas}
+use Rattle.limits.specs.Ranges.{provedAreas}
 use Rattle.contents.specs.File.{areasOf, numberAt}
 use Rattle.marks.specs.Marks.{counted}
 use Rattle.recording.specs.Record.{entries, marksOf}
@@ -16,7 +16,7 @@ use Rattle.recorded.proofs.recorded_days.Tie as tie
 
 abbrev Inv-loop : tie.InvT-loop
 Inv-loop given g file n days₀ k₀ days k =
-    (k ≤ n) × (length days ≡ plainAreas) × ((j : ℕ) → j < k → getD days j 0 ≡ counted (marksOf (numberAt file j) (entries given)) g)
+    (k ≤ n) × (length days ≡ provedAreas) × ((j : ℕ) → j < k → getD days j 0 ≡ counted (marksOf (numberAt file j) (entries given)) g)
 
 abbrev μ-loop : tie.MeasureT-loop
 μ-loop given g file n days₀ k₀ days k = n - k

@@ -18,10 +18,10 @@ use Rattle.recorded.proofs.settle_after.Statement.{statement}
 use Rattle.recorded.proofs.settle_after.Tie as tie
 
 sound : (c : tie.Start) → SoundFile (now (c .args .file))
-sound c = sound-file _ (admitted _ _ (c .pre) .checked)
+sound c = sound-file _ (admitted _ _ (c .pre .0) .checked)
 
 before : (c : tie.Start) → Before (c .args .given) (dayOf (now (c .args .file)))
-before c = record-before _ _ (admitted _ _ (c .pre) .judged)
+before c = record-before _ _ (admitted _ _ (c .pre .0) .judged)
 
 -- each area's d is that of the record
 days-are : (c : tie.After-recorded-days) →
@@ -45,7 +45,7 @@ word-requires-2 c κs = let r = sound (c .before .before) .room in omega arith
 gap-requires : tie.Need-gap-requires
 gap-requires c κs =
     let s = c .before .before .before in
-    rw (c .before .word .ensures) (file-head _ _ (within-limits _ (admitted _ _ (s .pre) .checked)) .real, admitted _ _ (s .pre) .judged)
+    rw (c .before .word .ensures) (file-head _ _ (within-limits _ (admitted _ _ (s .pre .0) .checked)) .real, admitted _ _ (s .pre .0) .judged)
 
 recorded-days-requires : tie.Need-recorded-days-requires
 recorded-days-requires c κs =
@@ -56,9 +56,11 @@ settle-accepted-requires : tie.Need-settle-accepted-requires
 settle-accepted-requires c κs =
     let d = c .before .before in
     let s = d .before .before .before .before .before in
-    let f = now (s .args .file) in
-    settleable _ (daysBy (recordDays (s .args .given) (dayOf f)) f) f (sound s)
-    (record { each = λ k h. days-few (s .args .given) (dayOf f) (numberAt f k) (before s) }) (days-are d)
+    let f = now (s .args .file) in (
+      settleable _ (daysBy (recordDays (s .args .given) (dayOf f)) f) f (sound s)
+          (record { each = λ k h. days-few (s .args .given) (dayOf f) (numberAt f k) (before s) }) (days-are d),
+      s .pre .1,
+    )
 
 returns : tie.Need-returns
 returns c =

@@ -27,24 +27,25 @@ returns c =
     let s = c .before .before .before .before .args in
     let r = s .given in
     let f = now (s .file) in (
-      seq-stop _ _ _ _ _ (opened r f (length (now (s .statement)))) (c .before .before .admit .ensures) (c .before .number .ensures) (c .if1 .taken),
+      seq-stop _ _ _ _ _ (opened r f (length (now (s .statement)))) (c .before .before .admit .ensures .0) (c .before .number .ensures) (c .if1 .taken),
       refused (daysBy (recordDays r (dayOf f)) f) f _ (now (s .statement)) (λ q. c .if1 .taken (c .before .number .ensures ∙ q)),
     )
 
 settle-after-requires : tie.Need-settle-after-requires
 settle-after-requires c κs =
-    let e = c .before in
-    sym (ap numberOf (e .before .before .admit .ensures)) ∙ sym (e .before .number .ensures) ∙ e .if1 .left
+    let e = c .before .before in
+    let admitted = sym (e .before .number .ensures) ∙ e .if1 .left in
+    (sym (ap numberOf (e .before .before .admit .ensures .0)) ∙ admitted, e .before .before .admit .ensures .1 admitted)
 
 returns-2 : tie.Need-returns-2
 returns-2 c =
-    let e = c .before .before .before in
+    let e = c .before .before .before .before in
     let s = e .before .before .before .before .args in
     let r = s .given in
     let f = now (s .file) in
     let settled = c .before .settle-after .ensures in
     let rule = opened r f (length (now (s .statement))) in
-    (settled .0 ∙ sym (seq-next _ _ _ _ _ rule (e .before .before .admit .ensures) (e .before .number .ensures) (e .if1 .left)), settled .1)
+    (settled .0 ∙ sym (seq-next _ _ _ _ _ rule (e .before .before .admit .ensures .0) (e .before .number .ensures) (e .if1 .left)), settled .1)
 
 pub settle-recorded-spec : {M : Type 1} → statement M
 settle-recorded-spec =

@@ -15,13 +15,13 @@ needed-is : (c : tie.After-numbers-needed) → c .numbers-needed .result ≡ num
 needed-is c = c .numbers-needed .ensures ∙ ap (neededTo (now (start c .args .file))) (c .before .before .word .ensures)
 
 word-requires : tie.Need-word-requires
-word-requires c κs = let r = c .before .before .pre .sound .room in omega arith
+word-requires c κs = let r = c .before .before .pre .0 .sound .room in omega arith
 
 word-requires-2 : tie.Need-word-requires-2
-word-requires-2 c κs = let r = c .before .before .before .pre .sound .room in omega arith
+word-requires-2 c κs = let r = c .before .before .before .pre .0 .sound .room in omega arith
 
 numbers-needed-requires : tie.Need-numbers-needed-requires
-numbers-needed-requires c κs = (c .before .before .before .before .pre .sound, c .before .word .ensures)
+numbers-needed-requires c κs = (c .before .before .before .before .pre .0 .sound, c .before .word .ensures)
 
 returns : tie.Need-returns
 unfolding acceptedRule
@@ -30,7 +30,10 @@ returns c =
     rw (lt-leb (numbersNeeded (now (s .file))) (s .room) (omega (arith, needed-is (c .before), c .if1 .taken))) (ap RoomTooShort (needed-is (c .before)))
 
 check-areas-requires : tie.Need-check-areas-requires
-check-areas-requires c κs = (start (c .before) .pre, (c .before .before .before .word .ensures, c .before .before .word2 .ensures))
+check-areas-requires c κs =
+    let s = start (c .before) in
+    let n = c .before .before .before .word .ensures in
+    ((s .pre .0, (n, c .before .before .word2 .ensures)), rw n (s .pre .1))
 
 returns-2 : tie.Need-returns-2
 unfolding acceptedRule

@@ -22,12 +22,15 @@ use Rattle.settlement.proofs.chargeable_hour.Tie as tie
 demands : (s : tie.Start) → DemandsRanged (now (s .args .body)) (s .args .at)
 demands s = rw (s .pre .here) (demands-ranged (now (s .args .body)) (s .pre .sound) (s .args .h) (s .pre .below))
 
--- back from T, and from A, to the start
+-- back from A to T, and from each to the start
+abbrev to-total : tie.After-amount-of → tie.After-sum-of-words
+to-total c = c .before .before .before .before
+
 abbrev from-total : tie.After-sum-of-words → tie.Start
 from-total c = c .before .before .before .before .before .before
 
 abbrev from-amount : tie.After-amount-of → tie.Start
-from-amount c = c .before .before .before .before .before .before .before .before .before
+from-amount c = from-total (to-total c)
 
 total-is : (c : tie.After-sum-of-words) → let s = from-total c .args in c .sum-of-words .result ≡ total (demandsOf (now (s .body)) (s .h))
 total-is c =
@@ -83,7 +86,7 @@ returns-2 c =
 
 amount-of-requires : tie.Need-amount-of-requires
 amount-of-requires c κs =
-    let s = c .before .before .before .before .before .before .before .before in
+    let s = from-total (c .before .before .before) in
     let k = s .pre in
     amounts-ranged (s .args .terms) (now (s .args .body)) (s .args .h) _ (c .hour-amounts .ensures) (k .sound) (k .below) (k .kept)
 
@@ -92,14 +95,15 @@ unfolding chargeable
 returns-3 c =
     let a = c .before .before in
     let s = from-amount a .args in
-    let w = a .before .before .before .before .before .before in
+    let w = to-total a .before .before .before in
     let kind : kindOf (now (s .body)) ≡ 1 = sym (w .before .word .ensures) ∙ w .if1 .left in
     let z = a .amount-of .result .0 in
     c .shareable .ensures
-    ∙ ap₂ (λ x t. eqb (natAbs x) 0 || ltb 0 t) (amount-back z (small a) ∙ amount-there a) (total-is (a .before .before .before))
+    ∙ ap₂ (λ x t. eqb (natAbs x) 0 || ltb 0 t) (amount-back z (small a) ∙ amount-there a) (total-is (to-total a))
     ∙ rw (eq-eqb _ _ kind)
 
 pub chargeable-hour-spec : {M : Type 1} → statement M
 chargeable-hour-spec =
     tie.close (tie.spec word-requires returns word-requires-2 (λ c. search needs) word-requires-3 (λ c. search needs) add-sum-of-words
-    (λ c. search needs) add-sum-of-words-2 sum-of-words-requires returns-2 (λ c κs. search needs) amount-of-requires (λ c κs. search needs) returns-3)
+    (λ c. search needs) add-sum-of-words-2 sum-of-words-requires returns-2 (λ c κs. search needs) (λ c κs. search needs) amount-of-requires
+    (λ c κs. search needs) returns-3)

@@ -16,20 +16,20 @@ use Rattle.settlement.proofs.check_areas.Statement.{statement}
 use Rattle.settlement.proofs.check_areas.Tie as tie
 
 abbrev Inv-loop : tie.InvT-loop
-Inv-loop peak days file n k₀ k = (k ≤ n) × (areasRefusal (listed days file) file ≡ scan (areaRefusal (listed days file) file) k (n - k))
+Inv-loop peak days file n plain k₀ k = (k ≤ n) × (areasRefusal (listed days file) file ≡ scan (areaRefusal (listed days file) file) k (n - k))
 
 abbrev μ-loop : tie.MeasureT-loop
-μ-loop peak days file n k₀ k = n - k
+μ-loop peak days file n plain k₀ k = n - k
 
 abbrev start : tie.In-loop Inv-loop μ-loop → tie.Start Inv-loop μ-loop
 start c = c .before .before .before .before
 
 below : (c : tie.In-loop Inv-loop μ-loop) → c .before .loop .k < areasOf (now (start c .args .file))
-below c = omega (arith, start c .pre .1 .0, c .loop-test .taken)
+below c = omega (arith, start c .pre .0 .1 .0, c .loop-test .taken)
 
 loop-holds : tie.Need-loop-holds Inv-loop μ-loop
 unfolding areasRefusal
-loop-holds c = let e = c .before .before .pre .1 .0 in (omega arith, rw (sub-zero, e))
+loop-holds c = let e = c .before .before .pre .0 .1 .0 in (omega arith, rw (sub-zero, e))
 
 same : (terms terms′ : Terms) (from from′ : ℕ) (body body′ : List ℕ) → terms ≡ terms′ → from ≡ from′ → body ≡ body′
     → hoursRefusal terms from body ≡ hoursRefusal terms′ from′ body′
@@ -41,7 +41,7 @@ terms-are : (c : tie.After-terms-of Inv-loop μ-loop) →
     c .terms-of .result ≡ termsAt (listed (now (start i .args .days)) f) f (i .before .loop .k)
 terms-are c =
     let s = start (c .before .before .before) in
-    terms-there (now (s .args .days)) (now (s .args .file)) _ _ _ _ (c .terms-of .ensures) (s .pre .1 .1) (c .before .body-at .ensures .0)
+    terms-there (now (s .args .days)) (now (s .args .file)) _ _ _ _ (c .terms-of .ensures) (s .pre .0 .1 .1) (c .before .body-at .ensures .0)
 
 turn : (c : tie.After-check-area Inv-loop μ-loop) →
     let i = c .before .before .before .before in
@@ -53,21 +53,28 @@ turn c =
     c .check-area .ensures ∙ same _ _ _ _ _ _ (terms-are (c .before)) (b .before .word .ensures) (b .body-at .ensures .0)
 
 word-requires : tie.Need-word-requires Inv-loop μ-loop
-word-requires c κs = let i = c in let r = placed _ (start i .pre .0 .sound) _ (below i) .0 in omega arith
+word-requires c κs = let i = c in let r = placed _ (start i .pre .0 .0 .sound) _ (below i) .0 in omega arith
 
 body-at-requires : tie.Need-body-at-requires Inv-loop μ-loop
-body-at-requires c κs = let i = c .before in placed _ (start i .pre .0 .sound) _ (below i)
+body-at-requires c κs = let i = c .before in placed _ (start i .pre .0 .0 .sound) _ (below i)
 
 terms-of-requires : tie.Need-terms-of-requires Inv-loop μ-loop
 terms-of-requires c κs =
     let i = c .before .before in
-    rw (c .body-at .ensures .0) (head-inside _ (start i .pre .0 .sound) _ (below i))
+    rw (c .body-at .ensures .0) (head-inside _ (start i .pre .0 .0 .sound) _ (below i))
+
+array-read-check-area : tie.Need-array-read-check-area Inv-loop μ-loop
+array-read-check-area c = let i = c .before .before .before in omega (arith, below i, start i .pre .0 .0 .sound .few)
 
 check-area-requires : tie.Need-check-area-requires Inv-loop μ-loop
 check-area-requires c κs =
     let i = c .before .before .before in
-    let s = start i .pre .0 in
-    rw (terms-are c, c .before .body-at .ensures .0) (record { days = s .kept .each _ (below i) }, (s .sound .body _ (below i), omega arith))
+    let s = start i .pre .0 .0 in
+    let body = c .before .body-at .ensures .0 in
+    rw (terms-are c, body) (
+      (record { days = s .kept .each _ (below i) }, (s .sound .body _ (below i), omega arith)),
+      start i .pre .1 .each _ (i .loop-test .taken),
+    )
 
 returns : tie.Need-returns Inv-loop μ-loop
 returns c =
@@ -85,4 +92,4 @@ returns-2 c = search loop-done
 pub check-areas-spec : {M : Type 1} → statement M
 check-areas-spec =
     tie.close (tie.spec Inv-loop μ-loop loop-holds (λ c. search needs) (λ c. search needs) (λ c. search needs) word-requires (λ c. search needs)
-    body-at-requires terms-of-requires check-area-requires (λ c κs. search needs) returns (λ c. search needs) (λ c. search needs) loop-again returns-2)
+    body-at-requires terms-of-requires array-read-check-area check-area-requires (λ c κs. search needs) returns (λ c. search needs) (λ c. search needs) loop-again returns-2)

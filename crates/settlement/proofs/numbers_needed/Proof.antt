@@ -7,7 +7,7 @@ use Rattle.body.specs.Layout.{coordinatorsOf}
 use Rattle.contents.specs.File.{areasOf, bodyAt}
 use Rattle.settlement.specs.Settlement.{neededTo}
 use Rattle.settlement.proofs.Areas.{needed-more, needed-small, placed, head-inside, area-few}
-use Rattle.limits.specs.Ranges.{mostCoordinators, plainAreas}
+use Rattle.limits.specs.Ranges.{mostCoordinators, provedAreas}
 use Rattle.statement.specs.Block.{areaNumbers}
 use Rattle.settlement.proofs.numbers_needed.Statement.{statement}
 use Rattle.settlement.proofs.numbers_needed.Tie as tie
@@ -30,7 +30,7 @@ count c =
     let e = c .word .ensures ∙ ap coordinatorsOf (c .before .body-at .ensures .0) in
     (e, rw e (area-few (now (s .args .file)) (s .pre .0) (c .before .before .before .loop .k) (below (c .before .before))))
 
-small : (c : tie.In-loop Inv-loop μ-loop) → c .before .loop .needed ≤ areaNumbers mostCoordinators * plainAreas
+small : (c : tie.In-loop Inv-loop μ-loop) → c .before .loop .needed ≤ areaNumbers mostCoordinators * provedAreas
 small c =
     let s = c .before .before .before in
     let l = c .before .loop in

@@ -11,22 +11,24 @@ use Rattle.settlement.proofs.settle.Statement.{statement}
 use Rattle.settlement.proofs.settle.Tie as tie
 
 accepted : (c : tie.Else1) → numberOf (checkOf (now (c .before .before .before .before .args .file))) ≡ 0
-accepted c = sym (ap numberOf (c .before .before .check .ensures)) ∙ sym (c .before .number .ensures) ∙ c .if1 .left
+accepted c = sym (ap numberOf (c .before .before .checked .ensures .0)) ∙ sym (c .before .number .ensures) ∙ c .if1 .left
 
 returns : tie.Need-returns
 returns c =
     let s = c .before .before .before .before .args in
     let f = now (s .file) in (
-      seq-stop _ _ _ _ _ (opened f (length (now (s .statement)))) (c .before .before .check .ensures) (c .before .number .ensures) (c .if1 .taken),
+      seq-stop _ _ _ _ _ (opened f (length (now (s .statement)))) (c .before .before .checked .ensures .0) (c .before .number .ensures) (c .if1 .taken),
       refused (daysBy ownDays f) f _ (now (s .statement)) (λ q. c .if1 .taken (c .before .number .ensures ∙ q)),
     )
 
 settle-accepted-requires : tie.Need-settle-accepted-requires
-settle-accepted-requires c κs = own-settleable _ (accepted (c .before .before))
+settle-accepted-requires c κs =
+    let e = c .before .before .before in
+    (own-settleable _ (accepted e), e .before .before .checked .ensures .1 (sym (e .before .number .ensures) ∙ e .if1 .left))
 
 returns-2 : tie.Need-returns-2
 returns-2 c =
-    let e = c .before .before .before .before in
+    let e = c .before .before .before .before .before in
     let s = e .before .before .before .before .args in
     let f = now (s .file) in
     let settled = c .before .settle-accepted .ensures in

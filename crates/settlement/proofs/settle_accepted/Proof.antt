@@ -24,10 +24,10 @@ returns c =
     )
 
 word-requires : tie.Need-word-requires
-word-requires c κs = let r = start c .pre .sound .room in omega arith
+word-requires c κs = let r = start c .pre .0 .sound .room in omega arith
 
 word-requires-2 : tie.Need-word-requires-2
-word-requires-2 c κs = let r = start (c .before) .pre .sound .room in omega arith
+word-requires-2 c κs = let r = start (c .before) .pre .0 .sound .room in omega arith
 
 write-areas-requires : tie.Need-write-areas-requires
 write-areas-requires c κs =
@@ -37,7 +37,7 @@ write-areas-requires c κs =
     let f = now (s .args .file) in
     let fits = needed-fits (listed (now (s .args .days)) f) f (length (now (s .args .statement)))
     (ap numberOf (sym (e .before .before .answer-accepted .ensures)) ∙ accepted e) in
-    ((s .pre, (w .word .ensures, c .before .word2 .ensures)), rw (w .word .ensures) fits)
+    ((s .pre .0, (w .word .ensures, c .before .word2 .ensures)), rw (w .word .ensures) fits)
 
 returns-2 : tie.Need-returns-2
 returns-2 c =

@@ -21,7 +21,7 @@ use Rattle.statement.proofs.write_hour.Tie as tie
 
 -- back from the amounts of the hour to the start
 abbrev start : tie.After-hour-amounts → tie.Start
-start c = c .before .before .before
+start c = c .before .before .before .before
 
 ranged : (c : tie.After-hour-amounts) → AmountsRanged (c .hour-amounts .result)
 ranged c =
@@ -95,5 +95,5 @@ returns c =
 
 pub write-hour-spec : {M : Type 1} → statement M
 write-hour-spec =
-    tie.close (tie.spec (λ c κs. search needs) put-amounts-requires amount-of-requires (λ c. search needs) (λ c. search needs) part-hour-charges-start
-    (λ c. search needs) hour-charges-requires (λ c. search needs) returns)
+    tie.close (tie.spec (λ c κs. search needs) (λ c κs. search needs) put-amounts-requires amount-of-requires (λ c. search needs) (λ c. search needs)
+    part-hour-charges-start (λ c. search needs) hour-charges-requires (λ c. search needs) returns)

@@ -22,7 +22,7 @@ use Rattle.paying.specs.Paid.{restOf, paidOf}
 abbrev pub room : ℕ → List ℤ
 room m = replicate m (pos 0)
 
-pub room-front : (n m : ℕ) → n ≤ m → take n (room m) ≡ room n
+room-front : (n m : ℕ) → n ≤ m → take n (room m) ≡ room n
 room-front zero m h = refl
 room-front (suc n) zero h = absurd (omega arith)
 room-front (suc n) (suc m) h = ap (λ (l : List ℤ). pos 0 ∷ l) (room-front n m (omega arith))

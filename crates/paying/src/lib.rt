@@ -3,7 +3,7 @@
 ghost use mathlib.Core.Path.{_≡_};
 ghost use Prim.Native.Nat.{ℕ, _+_, _*_, _≤_, _<_, _^_};
 ghost use lib.IntN.{pos, natAbs};
-ghost use lib.ListN.{length, take};
+ghost use lib.ListN.{length, take, replicate};
 ghost use Rattle.exact.specs.Total.{total};
 ghost use Rattle.limits.specs.Ranges.{dayPayments, mostDemand};
 ghost use Rattle.limits.specs.Editions.{mostAreas};
@@ -66,6 +66,18 @@ fn put_column(numbers: &[i64], j: usize, payments: &mut [i64])
     }
 }
 
+// Puts 0 into column j of so many rows.
+fn clear_column(rows: usize, j: usize, payments: &mut [i64])
+    requires { ⌜ (j < dayPayments) × (dayPayments * rows ≤ length (now payments)) ⌝ }
+    ensures { λ _. ⌜ now (payments .exit) ≡ putColumn j (replicate rows (pos 0)) (now (payments .entry)) ⌝ }
+{
+    let mut k: usize = 0;
+    while k < rows {
+        payments[limits::DAY_PAYMENTS * k + j] = 0;
+        k += 1;
+    }
+}
+
 // Pays column j out. In most hours nothing was collected, and nobody is paid.
 fn pay_column(bases: &[u32], n: usize, j: usize, payments: &mut [i64])
     requires { ⌜ (j < dayPayments) × (TableKept (now bases) n j (now payments)) ⌝ }
@@ -74,8 +86,7 @@ fn pay_column(bases: &[u32], n: usize, j: usize, payments: &mut [i64])
     let amount = collected(payments, n, j);
     let rows = n + 1;
     if amount == 0 {
-        let nothing = [0i64; limits::MOST_AREAS + 1];
-        put_column(&nothing[..rows], j, payments);
+        clear_column(rows, j, payments);
         return;
     }
     let basis = basis_column(bases, n, j);

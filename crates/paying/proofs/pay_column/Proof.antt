@@ -1,19 +1,18 @@
 use borrow.Author.Needs.{needs}
 use denote.Ref.{now}
-use Prim.Native.Nat.{_+_, _*_, _≤_}
+use Prim.Native.Nat.{_+_, _*_}
 use mathlib.Core.Path.{_≡_, sym, ap, _∙_}
 use native.Mathlib.Omega.{arith}
 use lib.IntN.{pos}
-use lib.ListN.{length, getD, take, length-take, length-replicate}
+use lib.ListN.{length, getD, take, length-take}
 use mir.Syntax.{w64}
 use mir.Val.{toZ, ofZ}
 use Rattle.exact.proofs.Machine.{got, zero-bits}
 use Rattle.limits.specs.Ranges.{dayPayments}
-use Rattle.limits.specs.Editions.{mostAreas}
 use Rattle.shares.specs.Shares.{sum}
 use Rattle.paying.specs.Columns.{column, putColumn, columnPaid}
 use Rattle.paying.proofs.Columns.{each-length, paid-length}
-use Rattle.paying.proofs.Payments.{room, room-front, paid-nothing}
+use Rattle.paying.proofs.Payments.{room, paid-nothing}
 use Rattle.paying.proofs.Sizes.{collected-small, payment-fits}
 use Rattle.paying.proofs.pay_column.Statement.{statement}
 use Rattle.paying.proofs.pay_column.Tie as tie
@@ -71,8 +70,8 @@ rows c =
 numbers-there : tie.Need-array-share-prefix-numbers
 numbers-there c = omega (arith, rows c, length-take (start (c .before .before) .args .n + 1) (c .paid .result))
 
-put-column-requires-2 : tie.Need-put-column-requires-2
-put-column-requires-2 c κs =
+put-column-requires : tie.Need-put-column-requires
+put-column-requires c κs =
     let p = c .before .before in
     let s = start (p .before .before) in
     (s .pre .0, rw (rows p) (s .pre .1 .rests))
@@ -81,12 +80,9 @@ returns-2 : tie.Need-returns-2
 returns-2 c =
     let p = c .before .before .before .before in
     let a = start (p .before .before) .args in
-    c .before .put-column2 .ensures ∙ ap (λ l. putColumn (a .j) l (now (a .payments))) (numbers-are p)
+    c .before .put-column .ensures ∙ ap (λ l. putColumn (a .j) l (now (a .payments))) (numbers-are p)
 
 -- nothing was collected
-nothing-long : (c : tie.Then1) → c .before .before .before .before .args .n + 1 ≤ mostAreas + 1
-nothing-long c = omega (arith, c .before .before .before .before .pre .1 .areas)
-
 nothing-is : (c : tie.Then1) →
     let a = c .before .before .before .before .args in
     room (a .n + 1) ≡ columnPaid (now (a .bases)) (a .n) (a .j) (now (a .payments))
@@ -97,26 +93,17 @@ nothing-is c =
     let count = each-length (λ i. getD (now (a .bases)) (dayPayments * i + a .j) 0) 0 (a .n) in
     sym (rw none (paid-nothing (column 0 (now (a .bases)) (a .n) (a .j)) ∙ ap (λ n. room (n + 1)) count))
 
-nothing-rows : (c : tie.Then1) → let n = c .before .before .before .before .args .n in length (take (n + 1) (room (mostAreas + 1))) ≡ n + 1
-nothing-rows c =
-    let n = c .before .before .before .before .args .n in
-    ap length (room-front (n + 1) (mostAreas + 1) (nothing-long c)) ∙ length-replicate (n + 1) (pos 0)
-
-put-column-requires : tie.Need-put-column-requires
-put-column-requires c κs =
-    let t = c .before .before in
-    let s = t .before .before .before .before in
-    (s .pre .0, rw (nothing-rows t) (s .pre .1 .rests))
+clear-column-requires : tie.Need-clear-column-requires
+clear-column-requires c κs = let s = c .before .before .before .before .before in (s .pre .0, s .pre .1 .rests)
 
 returns : tie.Need-returns
 returns c =
-    let t = c .before .before .before .before in
+    let t = c .before .before .before in
     let a = t .before .before .before .before .args in
-    c .before .put-column .ensures
-    ∙ ap (λ l. putColumn (a .j) l (now (a .payments))) (room-front (a .n + 1) (mostAreas + 1) (nothing-long t) ∙ nothing-is t)
+    c .before .clear-column .ensures ∙ ap (λ l. putColumn (a .j) l (now (a .payments))) (nothing-is t)
 
 pub pay-column-spec : {M : Type 1} → statement M
 pay-column-spec =
-    tie.close (tie.spec collected-requires (λ c. omega (arith, c .before .before .before .pre .1 .areas)) (λ c. nothing-long c)
-    (λ c. sym (nothing-rows (c .before))) put-column-requires (λ c. search needs) returns basis-column-requires basis-there (λ c. sym (count (c .before)))
-    paid-requires numbers-there (λ c. sym (rows (c .before))) put-column-requires-2 (λ c. search needs) returns-2)
+    tie.close (tie.spec collected-requires (λ c. omega (arith, c .before .before .before .pre .1 .areas)) clear-column-requires (λ c. search needs)
+    returns basis-column-requires basis-there (λ c. sym (count (c .before))) paid-requires numbers-there (λ c. sym (rows (c .before)))
+    put-column-requires (λ c. search needs) returns-2)

@@ -13,7 +13,8 @@ use Rattle.book.specs.Read.{countOf, endOf, daysOf}
 use Rattle.book.specs.Check.{mostBookDays, bookRule}
 use Rattle.book.specs.Sound.{Sound}
 use Rattle.book.proofs.Kept.{sound-book}
-use Rattle.keeping.specs.Keeping.{dayOfFile, insertDay, addRule, withDay}
+use Rattle.keeping_moves.specs.Moves.{dayOfFile}
+use Rattle.keeping.specs.Keeping.{insertDay, addRule, withDay}
 use Rattle.keeping.proofs.Rules.{add-book, add-file, add-taken}
 use Rattle.book_theorems.specs.ByDays.{Added}
 use Rattle.book_theorems.proofs.Good.{KeptDay, KeptDays, GoodDays}

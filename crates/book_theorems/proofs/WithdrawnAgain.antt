@@ -14,7 +14,8 @@ use Rattle.book.specs.Days.{bookBytes}
 use Rattle.book.specs.Read.{dueAt, endOf, daysOf}
 use Rattle.book.specs.Check.{bookRule}
 use Rattle.book.proofs.Places.{due-first}
-use Rattle.keeping.specs.Keeping.{dayOfFile, isThere, removeDay, addRule, withDay, withdrawRule, withoutDay}
+use Rattle.keeping_moves.specs.Moves.{dayOfFile}
+use Rattle.keeping.specs.Keeping.{isThere, removeDay, addRule, withDay, withdrawRule, withoutDay}
 use Rattle.keeping.proofs.Rules.{add-book, add-taken}
 use Rattle.book_theorems.specs.ByDays.{Back}
 use Rattle.book_theorems.proofs.Good.{GoodDays}

@@ -17,7 +17,7 @@ use Rattle.book.specs.Sound.{Sound}
 use Rattle.book.proofs.Places.{due-first}
 use Rattle.book.proofs.Kept.{sound-book}
 use Rattle.keeping.specs.Keeping.{isThere, removeDay, withdrawRule, withoutDay}
-use Rattle.keeping.proofs.Withdrawn.{book-emptied}
+use Rattle.keeping_moves.proofs.Withdrawn.{book-emptied}
 use Rattle.book_theorems.specs.ByDays.{Withdrawn}
 use Rattle.book_theorems.proofs.Good.{KeptDays, GoodDays}
 use Rattle.book_theorems.proofs.ReadBack.{days-again, sound-again, first-again}

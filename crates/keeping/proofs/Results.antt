@@ -11,8 +11,10 @@ use Rattle.contents.specs.File.{dayOf}
 use Rattle.book.specs.Days.{bookOf}
 use Rattle.book.specs.Read.{countOf}
 use Rattle.book.specs.Check.{bookRule}
-use Rattle.keeping.specs.Keeping.{dayOfFile, emptied, addRule, withDay, withdrawRule, withoutDay}
-use Rattle.keeping.specs.Place.{addedAt, withoutAt, beforeFirst, notEarlier, sameDate}
+use Rattle.keeping_moves.specs.Moves.{dayOfFile, emptied}
+use Rattle.keeping.specs.Keeping.{addRule, withDay, withdrawRule, withoutDay}
+use Rattle.keeping_moves.specs.Moves.{addedAt, withoutAt}
+use Rattle.keeping_places.specs.Place.{beforeFirst, notEarlier, sameDate}
 use Rattle.keeping.proofs.Placed.{added-inserted, without-removed}
 use Rattle.keeping.proofs.Rules.{is-there, is-absent}
 

@@ -17,8 +17,9 @@ use Rattle.contents.specs.File.{dayOf}
 use Rattle.dayfile.specs.Check.{checkOf}
 use Rattle.book.specs.Read.{roomWords, countOf, dateAt, endOf, dayAt, daysFrom, daysOf}
 use Rattle.book.specs.Check.{mostBookDays, bookRule}
-use Rattle.keeping.specs.Keeping.{isThere, mostBookWords, dayRule, addRule}
-use Rattle.keeping.specs.Place.{beforeFirst, sameDate}
+use Rattle.keeping_moves.specs.Moves.{mostBookWords}
+use Rattle.keeping.specs.Keeping.{isThere, dayRule, addRule}
+use Rattle.keeping_places.specs.Place.{beforeFirst, sameDate}
 
 both-more : (a b : ℕ) → ltb a b ≡ ltb (suc a) (suc b)
 both-more a b =

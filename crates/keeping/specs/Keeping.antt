@@ -1,9 +1,9 @@
 -- "A day can be added to and withdrawn from a book in lent room; freed words become 0" (docs/RULES.md, section 13).
-use Prim.Native.Nat.{ℕ, _+_, _*_, _/_}
+use Prim.Native.Nat.{ℕ, _+_, _/_}
 use mathlib.Core.Bool.{Bool, false, cond, not, _&&_, _||_}
-use mathlib.Core.List.{List, [], _∷_, _++_}
+use mathlib.Core.List.{List, [], _∷_}
 use lib.Dec.{eqb, leb, ltb}
-use lib.ListN.{length, drop, replicate}
+use lib.ListN.{length}
 use Rattle.verdict.specs.declared.Verdict.{Verdict}
 use Rattle.verdict.specs.declared.Verdict.the-variants.{Accepted, DaysDoNotFit, DateThereOrAbsent}
 use Rattle.verdict.specs.Verdict.{numberOf}
@@ -13,10 +13,7 @@ use Rattle.dayfile.specs.Check.{checkOf}
 use Rattle.book.specs.Days.{Day, bookOf}
 use Rattle.book.specs.Read.{roomWords, countOf, endOf, daysOf}
 use Rattle.book.specs.Check.{mostBookDays, bookRule}
-
--- a day by its file: "a day's date equals its file's word 1"
-abbrev pub dayOfFile : List ℕ → Day
-dayOfFile file = record { date = dayOf file; file = file }
+use Rattle.keeping_moves.specs.Moves.{dayOfFile, mostBookWords, emptied}
 
 -- ---- lists of days
 
@@ -36,10 +33,6 @@ removeDay date [] = []
 removeDay date (d ∷ days) = cond (eqb (d .date) date) days (d ∷ removeDay date days)
 
 -- ---- adding
-
--- a first word is a word: no entry can say that a file begins behind so many words
-abbrev pub mostBookWords : ℕ
-mostBookWords = 4294967296
 
 module _ (room : List ℕ) where
   -- 22, "date already there", then 21, "the days kept plus the new one don't fit or would be 32": an entry of three words and the file come to the book
@@ -63,10 +56,6 @@ module _ (room : List ℕ) where
   unfoldable pub withdrawRule : ℕ → Verdict
   withdrawRule date = bookRule room orElse (rule isThere date (daysOf room) else DateThereOrAbsent then Accepted)
 
-  -- the room with 0 for every word of its book
-  unfoldable pub emptied : List ℕ
-  emptied = replicate (4 * endOf room) 0 ++ drop (4 * endOf room) room
-
   -- the room afterwards: the words between the new end and the old end are 0, and a refusal leaves it as it was
   unfoldable pub withoutDay : ℕ → List ℕ
-  withoutDay date = cond (eqb (numberOf (withdrawRule date)) 0) (bookOf (removeDay date (daysOf room)) emptied) room
+  withoutDay date = cond (eqb (numberOf (withdrawRule date)) 0) (bookOf (removeDay date (daysOf room)) (emptied room)) room

@@ -9,8 +9,8 @@ use Rattle.book.specs.Read.{countOf}
 use Rattle.book.specs.Sound.{Sound}
 use Rattle.book.proofs.Kept.{sound-book}
 use Rattle.keeping.specs.Keeping.{addRule}
-use Rattle.keeping.specs.Place.{beforeFirst, notEarlier}
-use Rattle.keeping.proofs.Placed.{scan-within}
+use Rattle.keeping_places.specs.Place.{beforeFirst, notEarlier}
+use Rattle.keeping_places.proofs.Scan.{scan-within}
 use Rattle.keeping.proofs.Rules.{add-book, add-file, add-taken}
 use Rattle.keeping.proofs.Results.{not-added, day-added}
 use native.Mathlib.Omega.{arith}

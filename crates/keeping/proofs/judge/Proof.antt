@@ -4,7 +4,7 @@ use mathlib.Core.Path.{_≡_, ap, _∙_}
 use lib.ListN.{length}
 use Rattle.book.specs.Read.{countOf, dueAt, endOf}
 use Rattle.book.specs.Check.{mostBookDays}
-use Rattle.keeping.specs.Place.{beforeFirst, sameDate}
+use Rattle.keeping_places.specs.Place.{beforeFirst, sameDate}
 use Rattle.keeping.proofs.Rules.{date-there, too-many, too-long, past-words, day-fits}
 use native.Mathlib.Omega.{arith}
 use borrow.Author.Needs.{needs}

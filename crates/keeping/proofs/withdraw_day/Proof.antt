@@ -6,8 +6,8 @@ use Rattle.verdict.proofs.Accepted.{accepted-alone}
 use Rattle.book.specs.Read.{countOf}
 use Rattle.book.specs.Check.{bookRule}
 use Rattle.book.proofs.Kept.{sound-book}
-use Rattle.keeping.specs.Place.{beforeFirst, sameDate}
-use Rattle.keeping.proofs.Placed.{scan-within}
+use Rattle.keeping_places.specs.Place.{beforeFirst, sameDate}
+use Rattle.keeping_places.proofs.Scan.{scan-within}
 use Rattle.keeping.proofs.Results.{withdraw-stops, book-refused, absent-refused, nothing-withdrawn, withdraw-accepts, day-withdrawn}
 use native.Mathlib.Omega.{arith}
 use borrow.Author.Needs.{needs}

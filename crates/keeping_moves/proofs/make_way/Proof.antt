@@ -1,8 +1,8 @@
 use denote.Ref.{now}
-use Rattle.keeping.proofs.Files.{way-made}
+use Rattle.keeping_moves.proofs.Files.{way-made}
 use borrow.Author.Needs.{needs}
-use Rattle.keeping.proofs.make_way.Statement.{statement}
-use Rattle.keeping.proofs.make_way.Tie as tie
+use Rattle.keeping_moves.proofs.make_way.Statement.{statement}
+use Rattle.keeping_moves.proofs.make_way.Tie as tie
 
 returns : tie.Need-returns
 returns c =

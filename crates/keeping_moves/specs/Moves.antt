@@ -1,15 +1,20 @@
--- A day's place by its date: in the contents, and among the days.
-use Prim.Native.Nat.{ℕ, zero, suc, _+_, _*_, _-_, _/_, _≤_}
-use mathlib.Core.Bool.{Bool, cond, not}
+-- A day moved into a month book, and out of it: the days with one more and with one less at a place, the room that is left, and what a day more asks of the room.
+use Prim.Native.Nat.{ℕ, suc, _+_, _*_, _-_, _/_, _≤_}
 use mathlib.Core.List.{List, _∷_, _++_}
-use lib.Dec.{eqb, ltb}
-use lib.ListN.{length}
 use mathlib.Core.Path.{_≡_}
+use lib.ListN.{length, drop, replicate}
 use Rattle.contents.specs.File.{dayOf}
 use Rattle.book.specs.Days.{Day}
-use Rattle.book.specs.Read.{countOf, dateAt, endOf, daysFrom}
+use Rattle.book.specs.Read.{countOf, endOf, daysFrom}
 use Rattle.book.specs.Sound.{Sound}
-use Rattle.keeping.specs.Keeping.{mostBookWords}
+
+-- a day by its file: "a day's date equals its file's word 1"
+abbrev pub dayOfFile : List ℕ → Day
+dayOfFile file = record { date = dayOf file; file = file }
+
+-- a first word is a word: no entry can say that a file begins behind so many words
+abbrev pub mostBookWords : ℕ
+mostBookWords = 4294967296
 
 module _ (room : List ℕ) where
   -- the days with one more at place k
@@ -20,17 +25,9 @@ module _ (room : List ℕ) where
   abbrev pub withoutAt : ℕ → List Day
   withoutAt k = daysFrom room 0 k ++ daysFrom room (suc k) (countOf room - suc k)
 
-  -- of m entries from entry k on, how many stand before the first whose date meets the test
-  unfoldable pub beforeFirst : (ℕ → Bool) → (k m : ℕ) → ℕ
-  beforeFirst test k zero = 0
-  beforeFirst test k (suc m) = cond (test (dateAt room k)) 0 (suc (beforeFirst test (suc k) m))
-
--- the first that is not earlier than a date, and the first of that date
-abbrev pub notEarlier : (date : ℕ) → ℕ → Bool
-notEarlier date d = not (ltb d date)
-
-abbrev pub sameDate : (date : ℕ) → ℕ → Bool
-sameDate date d = eqb d date
+  -- the room with 0 for every word of its book
+  unfoldable pub emptied : List ℕ
+  emptied = replicate (4 * endOf room) 0 ++ drop (4 * endOf room) room
 
 -- a day more at place k has room, and its places have words
 pub record Fits (room : List ℕ) (k date : ℕ) (file : List ℕ) : Type 0 where

@@ -18,8 +18,8 @@ use Rattle.book.proofs.Places.{due-first, due-suc, due-grows}
 use Rattle.book.proofs.Runs.{behind, contents-append, files-append, date-is, words-are, days-count, files-are}
 use Rattle.book_entries.specs.Entries.{earlier, leftOver}
 use Rattle.book_entries.proofs.Entries.{earlier-length}
-use Rattle.keeping.specs.Place.{withoutAt}
-use Rattle.keeping.specs.Keeping.{emptied}
+use Rattle.keeping_moves.specs.Moves.{withoutAt}
+use Rattle.keeping_moves.specs.Moves.{emptied}
 
 emptied-behind : (m z n : ℕ) (rest : List ℕ) → m + z ≡ n → drop m (replicate n 0 ++ rest) ≡ replicate z 0 ++ rest
 emptied-behind m z n rest e =

@@ -4,13 +4,13 @@ use mathlib.Core.Path.{_≡_, ap, _∙_}
 use lib.ListN.{length}
 use Rattle.moving.specs.Written.{written}
 use Rattle.book.specs.Days.{bookOf}
-use Rattle.keeping.specs.Place.{addedAt}
+use Rattle.keeping_moves.specs.Moves.{addedAt}
 use Rattle.book.specs.Read.{countOf, dueAt}
-use Rattle.keeping.proofs.Added.{low, high, files, starts-fit, added-done}
+use Rattle.keeping_moves.proofs.Added.{low, high, files, starts-fit, added-done}
 use native.Mathlib.Omega.{arith}
 use borrow.Author.Needs.{needs}
-use Rattle.keeping.proofs.add_at.Statement.{statement}
-use Rattle.keeping.proofs.add_at.Tie as tie
+use Rattle.keeping_moves.proofs.add_at.Statement.{statement}
+use Rattle.keeping_moves.proofs.add_at.Tie as tie
 
 -- what is known of the three numbers once they are read
 facts : (c : tie.After-due2) → let s = c .before .before .before .before .before .before .before .before in

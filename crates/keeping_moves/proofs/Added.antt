@@ -18,7 +18,7 @@ use Rattle.book.proofs.Places.{due-first, due-suc, due-grows}
 use Rattle.book.proofs.Runs.{contents-append, files-append, date-is, words-are, days-count, days-behind, files-are}
 use Rattle.book_entries.specs.Entries.{later, entered}
 use Rattle.book_entries.proofs.Entries.{later-length, later-same}
-use Rattle.keeping.specs.Place.{addedAt}
+use Rattle.keeping_moves.specs.Moves.{addedAt}
 
 -- a book that is written to the front of the room
 pub at-front : (room after bytes : List ℕ) (days : List Day) → after ≡ written room 0 bytes → bytes ≡ bookBytes days → after ≡ bookOf days room

@@ -3,11 +3,11 @@ use Prim.Native.Nat.{_+_, _*_, _-_, _≤_}
 use mathlib.Core.Path.{_≡_, ap, _∙_}
 use lib.ListN.{length}
 use Rattle.book.specs.Read.{countOf, dueAt, sizeAt}
-use Rattle.keeping.proofs.Withdrawn.{first-due, last-due, starts-late, starts-later, withdrawn}
+use Rattle.keeping_moves.proofs.Withdrawn.{first-due, last-due, starts-late, starts-later, withdrawn}
 use native.Mathlib.Omega.{arith}
 use borrow.Author.Needs.{needs}
-use Rattle.keeping.proofs.withdraw_at.Statement.{statement}
-use Rattle.keeping.proofs.withdraw_at.Tie as tie
+use Rattle.keeping_moves.proofs.withdraw_at.Statement.{statement}
+use Rattle.keeping_moves.proofs.withdraw_at.Tie as tie
 
 -- what is known of the four numbers once they are read
 facts : (c : tie.After-due2) → let s = c .before .before .before .before .before .before .before .before .before in

@@ -1,8 +1,8 @@
 use denote.Ref.{now}
-use Rattle.keeping.proofs.Files.{closed-up}
+use Rattle.keeping_moves.proofs.Files.{closed-up}
 use borrow.Author.Needs.{needs}
-use Rattle.keeping.proofs.close_up.Statement.{statement}
-use Rattle.keeping.proofs.close_up.Tie as tie
+use Rattle.keeping_moves.proofs.close_up.Statement.{statement}
+use Rattle.keeping_moves.proofs.close_up.Tie as tie
 
 returns : tie.Need-returns
 returns c =

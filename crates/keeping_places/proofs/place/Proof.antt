@@ -3,12 +3,12 @@ use Prim.Native.Nat.{_+_, _-_, _≤_}
 use mathlib.Core.Bool.{not}
 use mathlib.Core.Path.{_≡_, sym, ap, _∙_}
 use borrow.Author.Tests.{le-ltb, lt-ltb}
-use Rattle.keeping.specs.Place.{beforeFirst, notEarlier}
-use Rattle.keeping.proofs.Placed.{scan-start, scan-next, scan-stop, scan-end}
+use Rattle.keeping_places.specs.Place.{beforeFirst, notEarlier}
+use Rattle.keeping_places.proofs.Scan.{scan-start, scan-next, scan-stop, scan-end}
 use native.Mathlib.Omega.{arith}
 use borrow.Author.Needs.{needs}
-use Rattle.keeping.proofs.place.Statement.{statement}
-use Rattle.keeping.proofs.place.Tie as tie
+use Rattle.keeping_places.proofs.place.Statement.{statement}
+use Rattle.keeping_places.proofs.place.Tie as tie
 
 abbrev Inv-loop : tie.InvT-loop
 Inv-loop room n date k₀ k = (k ≤ n) × (beforeFirst room (notEarlier date) 0 n ≡ k + beforeFirst room (notEarlier date) k (n - k))

@@ -2,12 +2,12 @@ use denote.Ref.{now}
 use Prim.Native.Nat.{_+_, _-_, _≤_}
 use mathlib.Core.Path.{_≡_, sym, _∙_}
 use borrow.Author.Tests.{eq-eqb, ne-eqb}
-use Rattle.keeping.specs.Place.{beforeFirst, sameDate}
-use Rattle.keeping.proofs.Placed.{scan-start, scan-next, scan-stop, scan-end}
+use Rattle.keeping_places.specs.Place.{beforeFirst, sameDate}
+use Rattle.keeping_places.proofs.Scan.{scan-start, scan-next, scan-stop, scan-end}
 use native.Mathlib.Omega.{arith}
 use borrow.Author.Needs.{needs}
-use Rattle.keeping.proofs.find.Statement.{statement}
-use Rattle.keeping.proofs.find.Tie as tie
+use Rattle.keeping_places.proofs.find.Statement.{statement}
+use Rattle.keeping_places.proofs.find.Tie as tie
 
 abbrev Inv-loop : tie.InvT-loop
 Inv-loop room n date k₀ k = (k ≤ n) × (beforeFirst room (sameDate date) 0 n ≡ k + beforeFirst room (sameDate date) k (n - k))

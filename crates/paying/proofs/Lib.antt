@@ -1,3 +1,4 @@
 pub mod Columns
 pub mod Sizes
 pub mod Payments
+pub mod Nothing

@@ -1,6 +1,7 @@
 -- A table of payments: a row for each area, of a number for each hour and direction, and behind them a row for the rests. It is paid out column by column.
-use Prim.Native.Nat.{ℕ, zero, suc, _+_, _*_}
+use Prim.Native.Nat.{ℕ, zero, suc, _+_, _*_, _<_}
 use mathlib.Core.List.{List, [], _∷_}
+use mathlib.Core.Path.{_≡_}
 use lib.IntN.{ℤ, pos}
 use lib.ListN.{getD, set}
 use Rattle.limits.specs.Ranges.{dayPayments}
@@ -30,3 +31,14 @@ module _ (bases : List ℕ) (n : ℕ) where
   unfoldable pub paidTo : ℕ → List ℤ → List ℤ
   paidTo zero table = table
   paidTo (suc j) table = putColumn j (columnPaid j (paidTo j table)) (paidTo j table)
+
+-- ---- where nothing was collected
+
+-- the first m numbers are 0
+abbrev pub Zeros : ℕ → List ℤ → Type 0
+Zeros m table = (p : ℕ) → p < m → getD table p (pos 0) ≡ pos 0
+
+-- the table once the rests of the first j columns, behind n rows, are 0
+unfoldable pub restsCleared : (n j : ℕ) → List ℤ → List ℤ
+restsCleared n zero table = table
+restsCleared n (suc j) table = set (restsCleared n j table) (dayPayments * n + j) (pos 0)

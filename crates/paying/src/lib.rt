@@ -1,5 +1,6 @@
 // Pays collected amounts out, column by column of a table: n rows, one for each area, of a number for each hour and direction, and behind them a row for the rests.
 // At first the rows hold what was collected from each area, and then what each is paid.
+ghost use mathlib.Core.Bool.{true};
 ghost use mathlib.Core.Path.{_≡_};
 ghost use Prim.Native.Nat.{ℕ, _+_, _*_, _≤_, _<_, _^_};
 ghost use lib.IntN.{pos, natAbs};
@@ -9,7 +10,7 @@ ghost use Rattle.limits.specs.Ranges.{dayPayments, mostDemand};
 ghost use Rattle.limits.specs.Editions.{mostAreas};
 ghost use Rattle.shares.specs.Shares.{sum};
 ghost use Rattle.paying.specs.Paid.{paidOf};
-ghost use Rattle.paying.specs.Columns.{column, putColumn, columnPaid, paidTo};
+ghost use Rattle.paying.specs.Columns.{column, putColumn, columnPaid, paidTo, Zeros, restsCleared};
 ghost use Rattle.paying.specs.Ranges.{ColumnKept, TableKept};
 
 // What column j of the first n rows adds up to.
@@ -102,6 +103,34 @@ pub fn pay_columns(bases: &[u32], n: usize, payments: &mut [i64])
     let mut j: usize = 0;
     while j < limits::DAY_PAYMENTS {
         pay_column(bases, n, j, payments);
+        j += 1;
+    }
+}
+
+// Whether nothing was collected from any of n areas in any hour and direction: joined bit by bit, so that the compiler takes several numbers at a time.
+pub fn nothing_collected(payments: &[i64], n: usize) -> bool
+    requires { ⌜ dayPayments * n ≤ length (now payments) ⌝ }
+    ensures { λ r. ⌜ (r ≡ true → Zeros (dayPayments * n) (now (payments .entry))) ⌝ }
+    ensures { λ r. ⌜ (Zeros (dayPayments * n) (now (payments .entry)) → r ≡ true) ⌝ }
+{
+    let end = limits::DAY_PAYMENTS * n;
+    let mut joined: i64 = 0;
+    let mut i: usize = 0;
+    while i < end {
+        joined = joined | payments[i];
+        i += 1;
+    }
+    joined == 0
+}
+
+// Puts 0 to the 48 rests, behind the rows of n areas.
+pub fn clear_rests(n: usize, payments: &mut [i64])
+    requires { ⌜ dayPayments * (n + 1) ≤ length (now payments) ⌝ }
+    ensures { λ _. ⌜ now (payments .exit) ≡ restsCleared n dayPayments (now (payments .entry)) ⌝ }
+{
+    let mut j: usize = 0;
+    while j < limits::DAY_PAYMENTS {
+        payments[limits::DAY_PAYMENTS * n + j] = 0;
         j += 1;
     }
 }

@@ -102,6 +102,7 @@ fn count_bases(file: &[u8], basis: &[u32], n: usize, counted: &mut [u32])
 
 // Checks the file and the basis, then pays what is collected in each hour and direction to the areas that pass, in `payments`: area after area, for each hour
 // upward and downward; then the rests. A refusal leaves the payments as they were.
+// Where nothing was collected every payment and rest is 0, and no basis is counted.
 pub fn pay_out(file: &[u8], basis: &[u32], payments: &mut [i64]) -> Verdict
     ensures { λ r. ⌜ r ≡ payOutRule (now (file .entry)) (now (basis .entry)) (length (now (payments .entry))) ⌝ }
     ensures { λ r. ⌜ now (payments .exit) ≡ paymentsAfter (now (file .entry)) (now (basis .entry)) r (now (payments .entry)) ⌝ }
@@ -112,6 +113,10 @@ pub fn pay_out(file: &[u8], basis: &[u32], payments: &mut [i64]) -> Verdict
     }
     let n = words::word(file, 2) as usize;
     collect_areas(file, n, payments);
+    if paying::nothing_collected(payments, n) {
+        paying::clear_rests(n, payments);
+        return v;
+    }
     let mut bases = [0u32; limits::DAY_PAYMENTS * limits::MOST_AREAS];
     count_bases(file, basis, n, &mut bases);
     paying::pay_columns(&bases, n, payments);

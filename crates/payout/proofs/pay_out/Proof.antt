@@ -1,7 +1,7 @@
 use borrow.Author.Needs.{needs}
 use denote.Ref.{now}
 use Prim.Native.Nat.{ℕ, _+_, _*_, _≤_, _<_}
-use mathlib.Core.List.{List, _++_}
+use mathlib.Core.List.{List, [], _++_}
 use mathlib.Core.Path.{_≡_, refl, sym, ap, _∙_}
 use native.Mathlib.Omega.{arith}
 use lib.ListN.{length, drop, replicate, length-append, length-drop}
@@ -14,7 +14,8 @@ use Rattle.contents.specs.File.{areasOf}
 use Rattle.settlement.proofs.Accepted.{sound-file}
 use Rattle.paying.specs.Columns.{paidTo}
 use Rattle.paying.specs.Ranges.{TableKept}
-use Rattle.payout.specs.PayOut.{areasTo, collectedFrom, basisOf, paymentsOf, payOutRule}
+use Rattle.paying.proofs.Nothing.{nothing-paid}
+use Rattle.payout.specs.PayOut.{areasTo, collectedFrom, basisOf, paymentsOf, payOutRule, paymentsAfter}
 use Rattle.payout.proofs.Areas.{areas-length}
 use Rattle.payout.proofs.Basis.{basis-long, basis-small}
 use Rattle.payout.proofs.Rule.{file-accepted, basis-accepted, room-enough, areas-few, refused, paid-out-then}
@@ -63,7 +64,7 @@ collect-areas-requires c κs =
 
 count-bases-requires : tie.Need-count-bases-requires
 count-bases-requires c κs =
-    let w = c .before .before .before .before in
+    let w = c .before .before .before .before .before .before .before in
     let e = w .before in
     let a = start e .args in
     let f = now (a .file) in
@@ -85,7 +86,7 @@ table-is c =
     c .collect-areas .ensures ∙ ap (λ n. areasTo (collectedFrom (now (a .file))) n ++ drop (dayPayments * n) (now (a .payments))) (w .word .ensures)
 
 abbrev to-table : tie.After-count-bases → tie.After-collect-areas
-to-table c = c .before .before .before
+to-table c = c .before .before .before .before .before .before
 
 bases-are : (c : tie.After-count-bases) →
     let a = start (to-table c .before .before .before) .args in
@@ -115,6 +116,53 @@ rows c =
       length-drop (dayPayments * n) (now (a .payments)),
     )
 
+-- the table, paid out over the areas' bases, is the payments, whatever stands behind the bases
+paid-out : (c : tie.After-collect-areas) (behind : List ℕ) →
+    let e = c .before .before .before in
+    let a = start e .args in
+    let f = now (a .file) in
+    let n = areasOf f in
+    paidTo (areasTo (basisOf f (now (a .basis))) n ++ behind) n dayPayments
+    (areasTo (collectedFrom f) n ++ drop (dayPayments * n) (now (a .payments)))
+    ≡ paymentsAfter f (now (a .basis)) (e .before .before .judge .result) (now (a .payments))
+paid-out c behind =
+    let e = c .before .before .before in
+    let a = start e .args in
+    let f = now (a .file) in
+    let basis = now (a .basis) in
+    let n = areasOf f in
+    let end : dayPayments * n + dayPayments ≡ dayPayments * (n + 1) = omega arith in
+    let left : drop dayPayments (drop (dayPayments * n) (now (a .payments))) ≡ drop (dayPayments * (n + 1)) (now (a .payments)) =
+    drop-drop dayPayments (dayPayments * n) (now (a .payments)) ∙ ap (λ m. drop m (now (a .payments))) end in
+    all-paid f basis _ behind (rows c)
+    ∙ ap (λ l. paymentsOf f basis ++ l) left
+    ∙ sym (paid-out-then f basis _ (now (a .payments)) (sym (e .before .number .ensures) ∙ e .if1 .left))
+
+nothing-collected-requires : tie.Need-nothing-collected-requires
+nothing-collected-requires c κs =
+    let t = c .before .before in
+    omega (arith, rows t, ap length (table-is t), t .before .before .word .ensures)
+
+clear-rests-requires : tie.Need-clear-rests-requires
+clear-rests-requires c κs =
+    let t = c .before .before .before .before .before in
+    omega (arith, rows t, ap length (table-is t), t .before .before .word .ensures)
+
+-- nothing was collected: the same as if the table were paid out over the areas' bases
+returns-2 : tie.Need-returns-2
+returns-2 c =
+    let none = c .before .before .before in
+    let t = none .before .before .before .before in
+    let w = t .before .before in
+    let a = start (w .before) .args in
+    let bases = areasTo (basisOf (now (a .file)) (now (a .basis))) (areasOf (now (a .file))) ++ [] in (
+      w .before .before .before .judge .ensures,
+      c .before .clear-rests .ensures
+          ∙ sym (nothing-paid bases _ _ (none .before .nothing-collected .ensures .0 (none .if2 .taken)))
+          ∙ paid-same refl (w .word .ensures) (table-is t)
+          ∙ paid-out t [],
+    )
+
 pay-columns-requires : tie.Need-pay-columns-requires
 pay-columns-requires c κs =
     let b = c .before .before .before in
@@ -127,28 +175,17 @@ pay-columns-requires c κs =
     kept-there (bases-are b) (w .word .ensures) (table-is t)
     (table-kept f basis _ _ (file-accepted f basis _ (accepted e)) (basis-small basis (areasOf f) (basis-accepted f basis _ (accepted e))) (rows t))
 
-returns-2 : tie.Need-returns-2
-returns-2 c =
+returns-3 : tie.Need-returns-3
+returns-3 c =
     let b = c .before .before .before .before .before in
     let t = to-table b in
-    let w = t .before .before in
-    let e = w .before in
-    let a = start e .args in
-    let f = now (a .file) in
-    let basis = now (a .basis) in
-    let n = areasOf f in
-    let end : dayPayments * n + dayPayments ≡ dayPayments * (n + 1) = omega arith in
-    let behind : drop dayPayments (drop (dayPayments * n) (now (a .payments))) ≡ drop (dayPayments * (n + 1)) (now (a .payments)) =
-    drop-drop dayPayments (dayPayments * n) (now (a .payments)) ∙ ap (λ m. drop m (now (a .payments))) end in
-    let paid = c .before .pay-columns .ensures ∙ paid-same (bases-are b) (w .word .ensures) (table-is t) in (
-      e .before .before .judge .ensures,
-      paid
-          ∙ all-paid f basis _ _ (rows t)
-          ∙ ap (λ l. paymentsOf f basis ++ l) behind
-          ∙ sym (paid-out-then f basis _ (now (a .payments)) (sym (e .before .number .ensures) ∙ e .if1 .left)),
+    let w = t .before .before in (
+      w .before .before .before .judge .ensures,
+      c .before .pay-columns .ensures ∙ paid-same (bases-are b) (w .word .ensures) (table-is t) ∙ paid-out t _,
     )
 
 pub pay-out-spec : {M : Type 1} → statement M
 pay-out-spec =
-    tie.close (tie.spec (λ c κs. search needs) (λ c κs. search needs) returns word-requires (λ c. search needs) collect-areas-requires (λ c. refl)
-    count-bases-requires (λ c. search needs) pay-columns-requires (λ c. search needs) returns-2)
+    tie.close (tie.spec (λ c κs. search needs) (λ c κs. search needs) returns word-requires (λ c. search needs) collect-areas-requires
+    nothing-collected-requires clear-rests-requires (λ c. search needs) returns-2 (λ c. refl) count-bases-requires (λ c. search needs)
+    pay-columns-requires (λ c. search needs) returns-3)

@@ -242,6 +242,6 @@ pub fn check(limits: Limits, ciso: u32, start: usize, body: &[u8]) -> Told
     if verdict::number(second) != 0 {
         return refused(second);
     }
-    let first = glance_hours(kind, body, load, k);
-    hours_from(first, start, kind, body, load, k)
+    let reached = glance_hours(kind, body, load, k);
+    hours_from(reached, start, kind, body, load, k)
 }

@@ -1,5 +1,5 @@
-// An hour at a glance: where no price is missing and no number is near its bound, its intervals are judged by their words joined bit by bit, which costs half of
-// what gathering them does. Most hours are told so to be accepted and plain.
+// An hour at a glance: where no price is missing and no number is near its bound, its intervals are judged by their words joined bit by bit, which is about
+// half the work of gathering them.
 ghost use mathlib.Core.Path.{_≡_};
 ghost use mathlib.Core.Bool.{true, not, _&&_};
 ghost use Prim.Native.Nat.{_+_, _*_, _≤_, _<_};
@@ -9,8 +9,9 @@ ghost use Rattle.hour.specs.Layout.{hourWords};
 ghost use Rattle.hour_glance.specs.Joined.{JoinedFrom, near, small};
 ghost use Rattle.hour_glance.specs.Told.{AcceptedPlain};
 
+// So much higher prices near 0, of either sign, are small numbers: 2^24.
 const RAISE: u32 = 16777216;
-
+// A raised price below 2^25 is in range and not missing, and a quantity below 2^23 is in range.
 const NEAR: u32 = 33554432;
 
 const SMALL: u32 = 8388608;

@@ -9,7 +9,7 @@ ghost use Rattle.exact.specs.Total.{total};
 ghost use Rattle.limits.specs.Ranges.{dayHours, dayPayments, provedAreas};
 ghost use Rattle.contents.specs.File.{areasOf};
 ghost use Rattle.settlement.specs.SoundFile.{SoundFile};
-ghost use Rattle.payout.specs.PayOut.{areasTo, basisAt, basisRule, collectedFrom, basisOf, payOutRule, paymentsAfter};
+ghost use Rattle.payout_rules.specs.PayOut.{areasTo, basisAt, basisRule, collectedFrom, basisOf, payOutRule, paymentsAfter};
 
 // What the basis of hour h adds up to, over n areas.
 fn hour_basis(basis: &[u32], n: usize, h: usize) -> u64

@@ -19,8 +19,8 @@ use Rattle.settlement.proofs.Shown.{on-peak-shown, off-peak-shown, downward-sho
 use Rattle.collecting.specs.Directions.{Direction, Upward, Downward, amountIn}
 use Rattle.paying.specs.Columns.{each}
 use Rattle.paying.proofs.Columns.{each-same}
-use Rattle.payout.specs.PayOut.{collectedFrom, collectedAt, payOutRule}
-use Rattle.payout.proofs.Rule.{settling-accepted}
+use Rattle.payout_rules.specs.PayOut.{collectedFrom, collectedAt, payOutRule}
+use Rattle.payout_rules.proofs.Rule.{settling-accepted}
 use Rattle.payout_theorems.specs.PaidOut.{amountShown}
 
 module _ (file basis : List ℕ) (room : ℕ) (z : numberOf (payOutRule file basis room) ≡ 0) (statement : List ℤ)

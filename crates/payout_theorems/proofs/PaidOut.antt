@@ -23,7 +23,7 @@ use Rattle.collecting.specs.Directions.{Direction, Upward, Downward, dayOf}
 use Rattle.paying.specs.Paid.{restOf}
 use Rattle.paying.specs.Columns.{each}
 use Rattle.paying.proofs.Columns.{each-same}
-use Rattle.payout.specs.PayOut.{areasTo, collectedFrom, collectedAt, passingBasis, paymentAt, restAt, paymentsOf, payOutRule}
+use Rattle.payout_rules.specs.PayOut.{areasTo, collectedFrom, collectedAt, passingBasis, paymentAt, restAt, paymentsOf, payOutRule}
 use Rattle.payout_theorems.specs.PaidOut.{paymentsLeft, amountShown, allAmounts, PaidOut}
 use Rattle.payout_theorems.proofs.Sums.{sum-append, sum-both, sum-swapped, bothOf, sum-day, sum-areas}
 use Rattle.payout_theorems.proofs.Shown.{own-shares, front-is, rest-shown, shown-shares}

@@ -14,7 +14,7 @@ use Rattle.contents.specs.File.{areasOf, bodyAt}
 use Rattle.shares.specs.Shares.{upTo, sharesFrom, shares}
 use Rattle.collecting.specs.Directions.{Direction, passes}
 use Rattle.paying.specs.Columns.{each}
-use Rattle.payout.specs.PayOut.{basisNumber, basisAt, collectedAt, passingBasis, payOutRule}
+use Rattle.payout_rules.specs.PayOut.{basisNumber, basisAt, collectedAt, passingBasis, payOutRule}
 use Rattle.payout_theorems.specs.PaidOut.{paymentsLeft, paymentsShown, passingOnly}
 use Rattle.payout_theorems.proofs.Shown.{shown-shares}
 

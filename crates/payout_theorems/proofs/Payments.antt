@@ -22,7 +22,7 @@ use Rattle.collecting.specs.Directions.{Direction, passes}
 use Rattle.paying.specs.Paid.{restOf}
 use Rattle.paying.specs.Columns.{each}
 use Rattle.paying.proofs.Columns.{each-length, each-there}
-use Rattle.payout.specs.PayOut.{collectedAt, basisOf, passingBasis, paymentAt, restAt, payOutRule}
+use Rattle.payout_rules.specs.PayOut.{collectedAt, basisOf, passingBasis, paymentAt, restAt, payOutRule}
 use Rattle.payout_theorems.specs.PaidOut.{paymentsLeft, paymentShown, Payments, Shared}
 use Rattle.payout_theorems.proofs.Shown.{payment-shown, rest-shown, shown-shares}
 use Rattle.payout_theorems.proofs.PassingOnly.{passing-only}

@@ -14,10 +14,10 @@ use Rattle.shares.proofs.Length.{shares-length}
 use Rattle.collecting.specs.Directions.{Direction, columnAt}
 use Rattle.paying.specs.Columns.{each}
 use Rattle.paying.proofs.Columns.{each-length, each-there, each-same}
-use Rattle.payout.specs.PayOut.{collectedAt, basisOf, passingBasis, paymentAt, restAt, paymentsNeeded, paymentsOf, payOutRule}
-use Rattle.payout.proofs.Areas.{column-below}
-use Rattle.payout.proofs.Rule.{paid-out-then}
-use Rattle.payout.proofs.Paid.{payments-length, payment-there, rest-there}
+use Rattle.payout_rules.specs.PayOut.{collectedAt, basisOf, passingBasis, paymentAt, restAt, paymentsNeeded, paymentsOf, payOutRule}
+use Rattle.payout_rules.proofs.Areas.{column-below}
+use Rattle.payout_rules.proofs.Rule.{paid-out-then}
+use Rattle.payout_rules.proofs.Paid.{payments-length, payment-there, rest-there}
 use Rattle.payout_theorems.specs.PaidOut.{paymentsLeft, paymentShown, paymentsShown, restShown}
 
 -- the payments of an hour and direction are the shares of what was collected

@@ -10,7 +10,7 @@ use Rattle.limits.specs.Ranges.{dayHours}
 use Rattle.shares.specs.Shares.{sum}
 use Rattle.collecting.specs.Directions.{Direction, Upward, Downward, hoursFrom, dayOf}
 use Rattle.paying.specs.Columns.{each}
-use Rattle.payout.specs.PayOut.{areasTo}
+use Rattle.payout_rules.specs.PayOut.{areasTo}
 
 pub sum-append : (xs ys : List ℤ) → sum (xs ++ ys) ≡ sum xs +ℤ sum ys
 unfolding sum

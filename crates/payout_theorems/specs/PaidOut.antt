@@ -12,7 +12,7 @@ use Rattle.shares.specs.Shares.{shares, sum, apart, mergedAt, SameSign}
 use Rattle.settlement.specs.Shown.{onPeakShown, offPeakShown, downwardShown}
 use Rattle.collecting.specs.Directions.{Direction, Upward, Downward, passes, columnAt}
 use Rattle.paying.specs.Columns.{each}
-use Rattle.payout.specs.PayOut.{basisAt, collectedAt, basisOf, passingBasis, paymentsNeeded, payOutRule, paymentsAfter}
+use Rattle.payout_rules.specs.PayOut.{basisAt, collectedAt, basisOf, passingBasis, paymentsNeeded, payOutRule, paymentsAfter}
 
 -- the payments that the call leaves of those that were lent
 abbrev pub paymentsLeft : (file basis : List ℕ) → List ℤ → List ℤ

@@ -2,7 +2,7 @@
 ghost use mathlib.Core.Path.{_≡_};
 ghost use lib.ListN.{length};
 ghost use Rattle.verdict.specs.Verdict.{numberOf};
-ghost use Rattle.payout.specs.PayOut.{payOutRule, paymentsAfter};
+ghost use Rattle.payout_rules.specs.PayOut.{payOutRule, paymentsAfter};
 
 #[no_mangle]
 pub extern "C" fn payout_timing_pay_out(file: &[u8], basis: &[u32], payments: &mut [i64]) -> u32

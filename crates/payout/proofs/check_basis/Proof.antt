@@ -9,8 +9,8 @@ use Rattle.limits.specs.Ranges.{dayHours}
 use Rattle.verdict.specs.declared.Verdict.the-variants.{Accepted, BadBasis}
 use Rattle.verdict.specs.First.{scan}
 use Rattle.verdict.proofs.First.{loop-stop, loop-next, loop-done}
-use Rattle.payout.specs.PayOut.{hourBasisRule, basisRule}
-use Rattle.payout.proofs.Basis.{hour-kept, hour-broken}
+use Rattle.payout_rules.specs.PayOut.{hourBasisRule, basisRule}
+use Rattle.payout_rules.proofs.Basis.{hour-kept, hour-broken}
 use Rattle.payout.proofs.check_basis.Statement.{statement}
 use Rattle.payout.proofs.check_basis.Tie as tie
 

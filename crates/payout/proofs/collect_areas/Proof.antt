@@ -11,8 +11,8 @@ use Rattle.body.proofs.Kept.{always}
 use Rattle.contents.specs.File.{areasOf, peakOf, bodyAt}
 use Rattle.settlement.proofs.Areas.{placed, head-inside}
 use Rattle.collecting.specs.Directions.{amountIn}
-use Rattle.payout.specs.PayOut.{areasTo, collectedFrom}
-use Rattle.payout.proofs.Areas.{areas-step}
+use Rattle.payout_rules.specs.PayOut.{areasTo, collectedFrom}
+use Rattle.payout_rules.proofs.Areas.{areas-step}
 use Rattle.payout.proofs.collect_areas.Statement.{statement}
 use Rattle.payout.proofs.collect_areas.Tie as tie
 

@@ -12,8 +12,8 @@ use Rattle.limits.specs.Ranges.{dayHours, dayPayments}
 use Rattle.contents.specs.File.{areasOf, bodyAt}
 use Rattle.settlement.proofs.Areas.{placed}
 use Rattle.collecting.specs.Directions.{passes, basisIn, dayOf}
-use Rattle.payout.specs.PayOut.{areasTo, basisOf}
-use Rattle.payout.proofs.Areas.{areas-step}
+use Rattle.payout_rules.specs.PayOut.{areasTo, basisOf}
+use Rattle.payout_rules.proofs.Areas.{areas-step}
 use Rattle.payout.proofs.count_bases.Statement.{statement}
 use Rattle.payout.proofs.count_bases.Tie as tie
 

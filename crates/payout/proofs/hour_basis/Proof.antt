@@ -10,7 +10,7 @@ use Rattle.exact.specs.Total.{total}
 use Rattle.limits.specs.Ranges.{dayHours}
 use Rattle.paying.specs.Columns.{each}
 use Rattle.paying.proofs.Columns.{each-next, each-done}
-use Rattle.payout.specs.PayOut.{basisAt}
+use Rattle.payout_rules.specs.PayOut.{basisAt}
 use Rattle.payout.proofs.hour_basis.Statement.{statement}
 use Rattle.payout.proofs.hour_basis.Tie as tie
 

@@ -14,8 +14,8 @@ use Rattle.dayfile.specs.Check.{checkOf}
 use Rattle.settlement.specs.Settlement.{areasRefusal, daysBy, ownDays}
 use Rattle.settlement.specs.SoundFile.{SoundFile}
 use Rattle.settlement.proofs.Accepted.{sound-file}
-use Rattle.payout.specs.PayOut.{basisRule, paymentsNeeded, payOutRule}
-use Rattle.payout.proofs.Rule.{never-thirteen, parts, behindSettling, roomRule}
+use Rattle.payout_rules.specs.PayOut.{basisRule, paymentsNeeded, payOutRule}
+use Rattle.payout_rules.proofs.Rule.{never-thirteen, parts, behindSettling, roomRule}
 use Rattle.payout.proofs.judge.Statement.{statement}
 use Rattle.payout.proofs.judge.Tie as tie
 

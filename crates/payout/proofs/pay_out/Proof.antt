@@ -15,11 +15,11 @@ use Rattle.settlement.proofs.Accepted.{sound-file}
 use Rattle.paying.specs.Columns.{paidTo}
 use Rattle.paying.specs.Ranges.{TableKept}
 use Rattle.paying.proofs.Nothing.{nothing-paid}
-use Rattle.payout.specs.PayOut.{areasTo, collectedFrom, basisOf, paymentsOf, payOutRule, paymentsAfter}
-use Rattle.payout.proofs.Areas.{areas-length}
-use Rattle.payout.proofs.Basis.{basis-long, basis-small}
-use Rattle.payout.proofs.Rule.{file-accepted, basis-accepted, room-enough, areas-few, refused, paid-out-then}
-use Rattle.payout.proofs.Paid.{table-kept, all-paid}
+use Rattle.payout_rules.specs.PayOut.{areasTo, collectedFrom, basisOf, paymentsOf, payOutRule, paymentsAfter}
+use Rattle.payout_rules.proofs.Areas.{areas-length}
+use Rattle.payout_rules.proofs.Basis.{basis-long, basis-small}
+use Rattle.payout_rules.proofs.Rule.{file-accepted, basis-accepted, room-enough, areas-few, refused, paid-out-then}
+use Rattle.payout_rules.proofs.Paid.{table-kept, all-paid}
 use Rattle.payout.proofs.pay_out.Statement.{statement}
 use Rattle.payout.proofs.pay_out.Tie as tie
 

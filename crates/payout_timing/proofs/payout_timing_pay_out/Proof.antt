@@ -2,7 +2,7 @@ use borrow.Author.Needs.{needs}
 use denote.Ref.{now}
 use mathlib.Core.Path.{ap, _∙_}
 use Rattle.verdict.specs.Verdict.{numberOf}
-use Rattle.payout.specs.PayOut.{paymentsAfter}
+use Rattle.payout_rules.specs.PayOut.{paymentsAfter}
 use Rattle.payout_timing.proofs.payout_timing_pay_out.Statement.{statement}
 use Rattle.payout_timing.proofs.payout_timing_pay_out.Tie as tie
 

@@ -16,7 +16,7 @@ use Rattle.verdict.proofs.First.{kept, scan-each}
 use Rattle.contents.specs.File.{bodyAt}
 use Rattle.collecting.specs.Directions.{Direction, passes}
 use Rattle.paying.specs.Columns.{each}
-use Rattle.payout.specs.PayOut.{allWithin, basisNumber, basisAt, hourBasisRule, basisRule, basisOf}
+use Rattle.payout_rules.specs.PayOut.{allWithin, basisNumber, basisAt, hourBasisRule, basisRule, basisOf}
 
 -- what adds up to at most m has no larger number in it
 within-total : (m : ℕ) (numbers : List ℕ) → total numbers ≤ m → allWithin m numbers ≡ true

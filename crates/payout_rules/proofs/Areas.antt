@@ -16,7 +16,7 @@ use Rattle.collecting.specs.Directions.{Direction, Upward, Downward, placeIn, c
 use Rattle.collecting.proofs.Hours.{hours-length, hour-there}
 use Rattle.paying.specs.Columns.{each, column}
 use Rattle.paying.proofs.Columns.{each-same}
-use Rattle.payout.specs.PayOut.{areasTo}
+use Rattle.payout_rules.specs.PayOut.{areasTo}
 
 place-small : (direction : Direction) → placeIn direction ≤ 1
 place-small Upward = omega arith

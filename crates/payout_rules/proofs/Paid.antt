@@ -24,10 +24,10 @@ use Rattle.paying.specs.Paid.{restOf, paidOf}
 use Rattle.paying.specs.Columns.{each, column, columnPaid, paidTo}
 use Rattle.paying.specs.Ranges.{TableKept}
 use Rattle.paying.proofs.Columns.{each-length, paid-to-length, not-paid, paid-there}
-use Rattle.payout.specs.PayOut.{areasTo, basisAt, collectedFrom, collectedAt, paymentsNeeded, basisOf, passingBasis, paymentAt, restAt, paymentsOf}
-use Rattle.payout.proofs.Areas.{column-below, hour-of, areas-length, area-there, day-there, column-of-areas}
-use Rattle.payout.proofs.Basis.{passing-small}
-use Rattle.payout.proofs.Rule.{areas-few}
+use Rattle.payout_rules.specs.PayOut.{areasTo, basisAt, collectedFrom, collectedAt, paymentsNeeded, basisOf, passingBasis, paymentAt, restAt, paymentsOf}
+use Rattle.payout_rules.proofs.Areas.{column-below, hour-of, areas-length, area-there, day-there, column-of-areas}
+use Rattle.payout_rules.proofs.Basis.{passing-small}
+use Rattle.payout_rules.proofs.Rule.{areas-few}
 
 -- the last of the payments of a column is the rest
 paid-payment : (collected : ℤ) (basis : List ℕ) (k : ℕ) → k < length basis → getD (paidOf collected basis) k (pos 0) ≡ getD (shares collected basis) k (pos 0)

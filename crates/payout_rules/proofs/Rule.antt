@@ -20,7 +20,7 @@ use Rattle.dayfile.proofs.Facts.{within-limits, file-head}
 use Rattle.settlement.specs.Settlement.{mostNumbers, numbersNeeded, areasRefusal, acceptedRule, daysBy, ownDays, settleOf}
 use Rattle.settlement.proofs.Accepted.{opened}
 use Rattle.settlement.proofs.Places.{needed-most}
-use Rattle.payout.specs.PayOut.{basisRule, paymentsNeeded, paymentsOf, payOutRule, paymentsAfter}
+use Rattle.payout_rules.specs.PayOut.{basisRule, paymentsNeeded, paymentsOf, payOutRule, paymentsAfter}
 
 -- what settling refuses where every statement fits: never 13
 pub never-thirteen : (file : List ℕ) → settleOf file mostNumbers ≡ (checkOf file orElse areasRefusal (daysBy ownDays file) file)

@@ -7,7 +7,7 @@ ghost use lib.ListN.{length, drop};
 ghost use Rattle.settlement.specs.Settlement.{settleOf};
 ghost use Rattle.book.specs.Read.{countOf, daysOf};
 ghost use Rattle.book.specs.Sound.{Sound};
-ghost use Rattle.month.specs.Month.{numbersTaken, settledDay, placesOf, settledDays, monthRule, statementAfter, tableAfter};
+ghost use Rattle.month_rules.specs.Month.{numbersTaken, settledDay, placesOf, settledDays, monthRule, statementAfter, tableAfter};
 
 // The answer of a day, and how many of the numbers that were left it takes: all of them where they are too few.
 struct DayPart {

@@ -17,8 +17,8 @@ use Rattle.dayfile.proofs.Facts.{within-limits, file-head}
 use Rattle.settlement.specs.Settlement.{numbersNeeded, areasRefusal, acceptedRule, daysBy, ownDays, settleOf}
 use Rattle.settlement.proofs.Accepted.{opened}
 use Rattle.settlement.proofs.Areas.{needed-within}
-use Rattle.month.specs.Month.{numbersTaken}
-use Rattle.month.proofs.OneDay.{taken-needed}
+use Rattle.month_rules.specs.Month.{numbersTaken}
+use Rattle.month_rules.proofs.OneDay.{taken-needed}
 
 -- 0 stands in the table just for a day that is settled
 pub coded-zero : (verdict : Verdict) → numberOf verdict ≡ 0 → coded verdict ≡ 0

@@ -13,9 +13,9 @@ use Rattle.dayfile.specs.Check.{checkOf}
 use Rattle.settlement.specs.Settlement.{numbersNeeded, settleOf}
 use Rattle.book.specs.Days.{Day}
 use Rattle.book.specs.Read.{countOf, daysFrom, daysOf}
-use Rattle.month.specs.Month.{placesOf, settledDays, monthRule}
-use Rattle.month.proofs.OneDay.{taken-needed}
-use Rattle.month.proofs.Rule.{statement-settled, table-told}
+use Rattle.month_rules.specs.Month.{placesOf, settledDays, monthRule}
+use Rattle.month_rules.proofs.OneDay.{taken-needed}
+use Rattle.month_rules.proofs.Rule.{statement-settled, table-told}
 use Rattle.month_theorems.specs.Parts.{fileIn, takenTo, restOf, statementLeft, tableLeft}
 use Rattle.month_theorems.specs.OneByOne.{ByItself, OneByOne, DoesNotFit, OnceThirteen}
 use Rattle.month_theorems.proofs.Answers.{by-check, by-room, some-needed}

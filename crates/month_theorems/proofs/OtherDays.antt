@@ -12,8 +12,8 @@ use Rattle.settlement.specs.Settlement.{numbersNeeded, statementTo, daysBy, own
 use Rattle.settlement.proofs.Room.{check-accepts}
 use Rattle.book.specs.Days.{Day}
 use Rattle.book.specs.Read.{countOf, daysOf}
-use Rattle.month.specs.Month.{numbersTaken, placesOf, settledDays, settledDay, monthRule}
-use Rattle.month.proofs.OneDay.{taken-needed, day-refused, day-settled, day-long}
+use Rattle.month_rules.specs.Month.{numbersTaken, placesOf, settledDays, settledDay, monthRule}
+use Rattle.month_rules.proofs.OneDay.{taken-needed, day-refused, day-settled, day-long}
 use Rattle.month_theorems.specs.Parts.{fileIn, takenTo, takenBy, restOf, partOf, statementLeft, tableLeft}
 use Rattle.month_theorems.specs.OtherDays.{RefusedStays, SameDay, OtherDays}
 use Rattle.month_theorems.proofs.Answers.{coded-zero, zero-coded, with-room}

@@ -12,8 +12,8 @@ use lib.Seq.{take-all, take-take, drop-drop, drop-cons, take-at, drop-at, length
 use Rattle.verdict.specs.Verdict.{numberOf, coded}
 use Rattle.settlement.specs.Settlement.{settleOf}
 use Rattle.book.specs.Days.{Day}
-use Rattle.month.specs.Month.{numbersTaken, settledDay, placesOf, settledDays}
-use Rattle.month.proofs.OneDay.{day-refused, day-length}
+use Rattle.month_rules.specs.Month.{numbersTaken, settledDay, placesOf, settledDays}
+use Rattle.month_rules.proofs.OneDay.{day-refused, day-length}
 use Rattle.month_theorems.specs.Parts.{dayIn, fileIn, takenTo, restOf, partOf}
 
 -- t numbers of `front`, or all of it where it has fewer, and then nothing is behind

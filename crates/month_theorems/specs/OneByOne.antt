@@ -10,7 +10,7 @@ use Rattle.dayfile.specs.Check.{checkOf}
 use Rattle.settlement.specs.Settlement.{numbersNeeded, settleOf}
 use Rattle.book.specs.Days.{Day}
 use Rattle.book.specs.Read.{countOf, daysOf}
-use Rattle.month.specs.Month.{numbersTaken, settledDay}
+use Rattle.month_rules.specs.Month.{numbersTaken, settledDay}
 use Rattle.month_theorems.specs.Parts.{fileIn, takenTo, restOf, partOf}
 
 -- day i, from 0, is settled by itself, into the rest of the statement behind the parts before it

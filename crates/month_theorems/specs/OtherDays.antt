@@ -5,7 +5,7 @@ use mathlib.Core.Path.{_≡_}
 use lib.IntN.{ℤ}
 use lib.ListN.{length, getD}
 use Rattle.book.specs.Days.{Day}
-use Rattle.month.specs.Month.{placesOf, settledDays}
+use Rattle.month_rules.specs.Month.{placesOf, settledDays}
 use Rattle.month_theorems.specs.Parts.{partOf}
 
 -- day i, from 0, of a settled book: `left` of the statement and `told` of the table

@@ -4,7 +4,7 @@ use mathlib.Core.List.{List, [], _∷_}
 use lib.IntN.{ℤ}
 use lib.ListN.{length, getD, take, drop}
 use Rattle.book.specs.Days.{Day}
-use Rattle.month.specs.Month.{numbersTaken, monthRule, statementAfter, tableAfter}
+use Rattle.month_rules.specs.Month.{numbersTaken, monthRule, statementAfter, tableAfter}
 
 -- day i, from 0
 abbrev pub dayIn : List Day → ℕ → Day

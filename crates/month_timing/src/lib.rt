@@ -3,7 +3,7 @@ ghost use mathlib.Core.Path.{_≡_};
 ghost use lib.ListN.{length};
 ghost use Rattle.verdict.specs.Verdict.{numberOf};
 ghost use Rattle.keeping.specs.Keeping.{addRule, withDay, withdrawRule, withoutDay};
-ghost use Rattle.month.specs.Month.{monthRule, statementAfter, tableAfter};
+ghost use Rattle.month_rules.specs.Month.{monthRule, statementAfter, tableAfter};
 
 #[no_mangle]
 pub extern "C" fn month_timing_settle(book: &[u8], statement: &mut [i64], table: &mut [u64]) -> u32

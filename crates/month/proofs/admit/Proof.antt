@@ -12,8 +12,8 @@ use Rattle.verdict.proofs.First.{seq-next, seq-stop}
 use Rattle.book.specs.Read.{countOf}
 use Rattle.book.specs.Check.{bookRule}
 use Rattle.book.proofs.Kept.{sound-book}
-use Rattle.month.specs.Month.{monthRule}
-use Rattle.month.proofs.Rule.{opened}
+use Rattle.month_rules.specs.Month.{monthRule}
+use Rattle.month_rules.proofs.Rule.{opened}
 use Rattle.month.proofs.admit.Statement.{statement}
 use Rattle.month.proofs.admit.Tie as tie
 

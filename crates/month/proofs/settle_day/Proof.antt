@@ -8,8 +8,8 @@ use Rattle.verdict.proofs.First.{seq-stop}
 use Rattle.dayfile.specs.Check.{checkOf}
 use Rattle.settlement.specs.Settlement.{neededTo, settleOf, after}
 use Rattle.settlement.proofs.Accepted.{opened, sound-file, own-settleable, past-check}
-use Rattle.month.specs.Month.{numbersTaken, settledDay}
-use Rattle.month.proofs.OneDay.{taken-none, taken-needed, day-refused, day-length}
+use Rattle.month_rules.specs.Month.{numbersTaken, settledDay}
+use Rattle.month_rules.proofs.OneDay.{taken-none, taken-needed, day-refused, day-length}
 use Rattle.month.proofs.settle_day.Statement.{statement}
 use Rattle.month.proofs.settle_day.Tie as tie
 

@@ -9,9 +9,9 @@ use lib.ListN.{length, take, drop, take-append-drop}
 use Rattle.exact.proofs.Filling.{Filling, fill-start, fill-end}
 use Rattle.verdict.specs.Verdict.{coded}
 use Rattle.book.specs.Read.{countOf, dayAt, daysFrom, daysOf}
-use Rattle.month.specs.Month.{placesOf, settledDays}
+use Rattle.month_rules.specs.Month.{placesOf, settledDays}
 use Rattle.settlement.proofs.Places.{place-coded}
-use Rattle.month.proofs.Days.{file-is, days-next, days-done, Turn, length-turn, inside-turn, statement-turn, table-turn}
+use Rattle.month_rules.proofs.Days.{none-settled, file-is, days-next, days-done, Turn, length-turn, inside-turn, statement-turn, table-turn}
 use Rattle.month.proofs.settle_days.Statement.{statement}
 use Rattle.month.proofs.settle_days.Tie as tie
 
@@ -89,13 +89,14 @@ same-length-2 : tie.Need-same-length-2 Inv-loop μ-loop
 same-length-2 c = c .before .loop .inv .4 .kept
 
 returns : tie.Need-returns Inv-loop μ-loop
-unfolding placesOf settledDays
+unfolding placesOf
 returns c =
     let l = c .before .loop in
     let s = c .before .before .before .before in
     let done = days-done (now (s .args .book)) (l .i) (s .args .n) (c .loop-test .left) in
     let e : l .i ≡ s .args .n = omega (arith, l .inv .0, c .loop-test .left) in
-    (sym (take-append-drop (l .to) (l .statement)) ∙ rw done at (l .inv .3), rw (← e) (fill-end (rw done at (l .inv .4))))
+    let stays = ap (λ xs. take (l .to) (l .statement) ++ xs) (none-settled (drop (l .to) (l .statement))) in
+    (sym (take-append-drop (l .to) (l .statement)) ∙ sym stays ∙ rw done at (l .inv .3), rw (← e) (fill-end (rw done at (l .inv .4))))
 
 pub settle-days-spec : {M : Type 1} → statement M
 settle-days-spec =

@@ -8,8 +8,8 @@ use Rattle.verdict.specs.Verdict.{numberOf}
 use Rattle.book.specs.Read.{daysOf}
 use Rattle.book.specs.Sound.{Sound}
 use Rattle.book.proofs.Kept.{sound-book}
-use Rattle.month.specs.Month.{placesOf, monthRule}
-use Rattle.month.proofs.Rule.{checked, places-enough, statement-stays, statement-settled, table-stays, table-told}
+use Rattle.month_rules.specs.Month.{placesOf, monthRule}
+use Rattle.month_rules.proofs.Rule.{checked, places-enough, statement-stays, statement-settled, table-stays, table-told}
 use Rattle.month.proofs.settle_month.Statement.{statement}
 use Rattle.month.proofs.settle_month.Tie as tie
 

@@ -2,7 +2,7 @@ use denote.Ref.{now}
 use mathlib.Core.Path.{ap, _∙_}
 use lib.ListN.{length}
 use Rattle.verdict.specs.Verdict.{numberOf}
-use Rattle.month.specs.Month.{statementAfter, tableAfter}
+use Rattle.month_rules.specs.Month.{statementAfter, tableAfter}
 use borrow.Author.Needs.{needs}
 use Rattle.month_timing.proofs.month_timing_settle.Statement.{statement}
 use Rattle.month_timing.proofs.month_timing_settle.Tie as tie

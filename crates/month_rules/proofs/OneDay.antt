@@ -18,7 +18,7 @@ use Rattle.settlement.specs.Settlement.{numbersNeeded, statementTo, daysBy, own
 use Rattle.settlement.proofs.Accepted.{sound-file, refused, settled}
 use Rattle.settlement.proofs.Areas.{statement-length}
 use Rattle.settlement.proofs.Room.{check-accepts, room-enough}
-use Rattle.month.specs.Month.{numbersTaken, settledDay}
+use Rattle.month_rules.specs.Month.{numbersTaken, settledDay}
 
 module _ (n yes no : ℕ) where
   where-zero : n ≡ 0 → cond (eqb n 0) yes no ≡ yes

@@ -14,7 +14,7 @@ use Rattle.verdict.specs.First.{rule_else_then_, _orElse_}
 use Rattle.verdict.proofs.First.{kept, or-first, or-second}
 use Rattle.book.specs.Read.{countOf, daysOf}
 use Rattle.book.specs.Check.{bookRule}
-use Rattle.month.specs.Month.{placesOf, settledDays, monthRule, statementAfter, tableAfter}
+use Rattle.month_rules.specs.Month.{placesOf, settledDays, monthRule, statementAfter, tableAfter}
 
 module _ (room : List ℕ) (places : ℕ) where
   pub opened : monthRule room places ≡ (bookRule room orElse (rule leb (countOf room) places else DaysDoNotFit then Accepted))

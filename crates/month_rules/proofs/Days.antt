@@ -17,8 +17,13 @@ use Rattle.settlement.specs.Settlement.{settleOf}
 use Rattle.moving.specs.Written.{part}
 use Rattle.book.specs.Days.{Day}
 use Rattle.book.specs.Read.{startAt, sizeAt, dayAt, daysFrom}
-use Rattle.month.specs.Month.{numbersTaken, settledDay, placesOf, settledDays}
-use Rattle.month.proofs.OneDay.{day-length, day-behind}
+use Rattle.month_rules.specs.Month.{numbersTaken, settledDay, placesOf, settledDays}
+use Rattle.month_rules.proofs.OneDay.{day-length, day-behind}
+
+-- behind the parts of the days the statement stays
+pub none-settled : (statement : List ℤ) → settledDays [] statement ≡ statement
+unfolding settledDays
+none-settled statement = refl
 
 module _ (room : List ℕ) where
   pub file-is : (k : ℕ) → dayAt room k .file ≡ part room (4 * startAt room k) (4 * sizeAt room k)

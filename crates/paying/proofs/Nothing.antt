@@ -19,7 +19,8 @@ unfolding restsCleared
 cleared-length n table zero = refl
 cleared-length n table (suc j) = length-set (restsCleared n j table) (dayPayments * n + j) (pos 0) ∙ cleared-length n table j
 
-sum-nothing : (number : ℕ → ℤ) (k n : ℕ) → ((i : ℕ) → i < k + n → number i ≡ pos 0) → sum (each number k n) ≡ pos 0
+-- zeros add up to 0
+pub sum-nothing : (number : ℕ → ℤ) (k n : ℕ) → ((i : ℕ) → i < k + n → number i ≡ pos 0) → sum (each number k n) ≡ pos 0
 unfolding each sum
 sum-nothing number k zero none = refl
 sum-nothing number k (suc n) none = ap₂ _+ℤ_ (none k (omega arith)) (sum-nothing number (suc k) n (λ i p. none i (omega arith)))

@@ -4,12 +4,13 @@ use mathlib.Core.List.{List, [], _∷_, _++_}
 use mathlib.Core.Path.{_≡_, refl, sym, ap, ap₂, _∙_}
 use native.Mathlib.Nat.{add-zero, zero-add}
 use native.Mathlib.Omega.{arith}
-use lib.IntN.{ℤ, pos, _+ℤ_, +ℤ-idl, +ℤ-idr, +ℤ-assoc, +ℤ-comm}
+use lib.IntN.{ℤ, pos, _+ℤ_, +ℤ-idl, +ℤ-idr, +ℤ-assoc}
 use Rattle.exact.proofs.Difference.{crosswise}
 use Rattle.limits.specs.Ranges.{dayHours}
 use Rattle.shares.specs.Shares.{sum}
 use Rattle.collecting.specs.Directions.{Direction, Upward, Downward, hoursFrom, dayOf}
 use Rattle.paying.specs.Columns.{each}
+use Rattle.paying.proofs.Nothing.{sum-nothing}
 use Rattle.payout_rules.specs.PayOut.{areasTo}
 
 pub sum-append : (xs ys : List ℤ) → sum (xs ++ ys) ≡ sum xs +ℤ sum ys
@@ -32,11 +33,6 @@ sum-last number n =
     ∙ sum-append (each number 0 n) (number n ∷ [])
     ∙ ap (λ z. sum (each number 0 n) +ℤ z) (+ℤ-idr (number n))
 
-sum-nothing : (k n : ℕ) → sum (each (λ _. pos 0) k n) ≡ pos 0
-unfolding sum each
-sum-nothing k zero = refl
-sum-nothing k (suc n) = +ℤ-idl (sum (each (λ _. pos 0) (suc k) n)) ∙ sum-nothing (suc k) n
-
 pub sum-both : (one other : ℕ → ℤ) (k n : ℕ) → sum (each (λ i. one i +ℤ other i) k n) ≡ sum (each one k n) +ℤ sum (each other k n)
 unfolding sum each
 sum-both one other k zero = refl
@@ -48,7 +44,7 @@ sum-both one other k (suc n) =
 pub sum-swapped : (number : ℕ → ℕ → ℤ) (m k n : ℕ)
     → sum (each (λ i. sum (each (number i) 0 m)) k n) ≡ sum (each (λ j. sum (each (λ i. number i j) k n)) 0 m)
 unfolding sum each
-sum-swapped number m k zero = sym (sum-nothing 0 m)
+sum-swapped number m k zero = sym (sum-nothing (λ _. pos 0) 0 m (λ i p. refl))
 sum-swapped number m k (suc n) =
     ap (λ z. sum (each (number k) 0 m) +ℤ z) (sum-swapped number m (suc k) n)
     ∙ sym (sum-both (number k) (λ j. sum (each (λ i. number i j) (suc k) n)) 0 m)

@@ -1,4 +1,5 @@
 // The amounts of an area's hours, read from its body: the facts of its day, the amounts of an hour, and what a needed price refuses.
+#![tactic(auto)]
 ghost use Rattle.std.specs.Prelude.{◌≡◌, ◌+◌, ◌*◌, ◌≤◌, ◌<◌, max, ◌+ℤ◌, length};
 ghost use Rattle.words.specs.Word.{word_at, signed_of};
 ghost use Rattle.limits.specs.Ranges.{proved_points};
@@ -15,14 +16,14 @@ use units::{Cents, HubPrice, MarketPrice, Quantity};
 use verdict::Verdict;
 
 // U and the tier of an hour.
-#[derive(Drop)]
+#[derive(Clone, Copy)]
 pub struct Hour {
     pub upward: Quantity,
     pub tier: u32,
 }
 
 // The three amounts of an hour, and the S and the credit that it shows, which nobody is charged.
-#[derive(Drop)]
+#[derive(Clone, Copy)]
 pub struct Amounts {
     pub on: Cents,
     pub off: Cents,

@@ -1,4 +1,5 @@
 // The check of one area's body: its head, its coordinators and its 24 hours, word by word, the first that breaks its rule, and whether the area is plain.
+#![tactic(auto)]
 ghost use Rattle.std.specs.Prelude.{false, ◌&&◌, ◌≡◌, ◌+◌, ◌*◌, ◌/◌, ◌≤◌, ◌<◌, ◌^◌, eqb, length};
 ghost use Rattle.verdict.specs.Verdict.{number_of};
 ghost use Rattle.limits.specs.Ranges.{day_hours, proved_points};
@@ -139,7 +140,7 @@ fn refused(answer: Verdict) -> Told
 }
 
 // An hour, and where it starts.
-#[derive(Drop)]
+#[derive(Clone, Copy)]
 struct Reached {
     hour: usize,
     at: usize,

@@ -1,4 +1,6 @@
 // The month book: its check, where a day's file is due, and a day's file as a part of the book.
+#![tactic(auto)]
+
 ghost use Rattle.std.specs.Prelude.{◌≡◌, ◌+◌, ◌*◌, ◌≤◌, ◌<◌, ◌^◌, length};
 ghost use Rattle.verdict.specs.First.{◌or_else◌, scan};
 ghost use Rattle.moving.specs.Written.{part};

@@ -1,4 +1,6 @@
 // The body that an entry of the contents says, as a part of the day file.
+#![tactic(auto)]
+
 ghost use Rattle.std.specs.Prelude.{◌+◌, ◌*◌, ◌≤◌, length};
 ghost use Rattle.contents.specs.File.{start_at, size_at};
 ghost use Rattle.contents.specs.BodyPart.{body_part, HandsBack};

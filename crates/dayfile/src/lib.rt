@@ -1,4 +1,5 @@
 // The day file: the check of all its words, with which of its areas are plain, and the lookup of an area's body.
+#![tactic(auto)]
 ghost use Rattle.std.specs.Prelude.{◌≡◌, ◌+◌, ◌*◌, ◌≤◌, ◌<◌, ◌^◌, length};
 ghost use Rattle.words.specs.Word.{word_at};
 ghost use Rattle.verdict.specs.Verdict.{number_of};
@@ -14,7 +15,7 @@ use limits::Limits;
 use verdict::Verdict;
 
 // What is told of a day file: the first word that breaks its rule and, where none does, which of its areas are plain.
-#[derive(Drop)]
+#[derive(Clone, Copy)]
 pub struct Told {
     pub answer: Verdict,
     pub plain: [bool; limits::PROVED_AREAS],

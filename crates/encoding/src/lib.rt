@@ -1,4 +1,6 @@
 // Numbers as bytes for a host: eight bytes a number, the lowest first, two's complement.
+#![tactic(auto)]
+
 ghost use Rattle.std.specs.Prelude.{◌≡◌, ◌++◌, ◌*◌, ◌/◌, ◌≤◌, length, drop};
 ghost use Rattle.encoding.specs.Encoding.{bits_of, bytes_of, encoded, NumberIn, NumbersIn};
 

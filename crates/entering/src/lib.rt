@@ -1,4 +1,5 @@
 // Enters a day file into the record of failing days: the call `enter`.
+#![tactic(auto)]
 ghost use Rattle.std.specs.Prelude.{◌≡◌, ◌^◌};
 ghost use Rattle.limits.specs.Ranges.{recorded_days};
 ghost use Rattle.verdict.specs.Verdict.{number_of};
@@ -13,7 +14,7 @@ use recording::{Marking, Record};
 use verdict::Verdict;
 
 // The answer of an entry, and the record afterwards: a refusal leaves it as it was.
-#[derive(Drop)]
+#[derive(Clone, Copy)]
 pub struct Entered {
     pub answer: Verdict,
     pub after: Record,

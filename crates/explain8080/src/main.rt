@@ -1,6 +1,7 @@
 // The program: settles the day file on standard input and prints what its charges come from, or where it is refused, as docs/EXPLAIN.md says.
 // All that is decided is decided by `settlement::settle`; amounts and charges are printed from the statement, and what they rest on is asked
 // of the functions that settled them.
+#![tactic(auto)]
 ghost use Rattle.std.specs.Prelude.{◌≡◌, ◌+◌, ◌*◌, ◌≤◌, ◌<◌, length};
 ghost use Rattle.words.specs.Word.{word_at};
 ghost use Rattle.limits.specs.Ranges.{day_hours, most_coordinators, proved_points};
@@ -402,7 +403,7 @@ fn show_charges(file: &[u8], n: usize, statement: &[i64]) -> bool
 
 // ---- totals
 
-#[derive(Drop)]
+#[derive(Clone, Copy)]
 struct Totals {
     on: i64,
     off: i64,

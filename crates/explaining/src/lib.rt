@@ -1,5 +1,6 @@
 // What the amounts of an hour rest on: the numbers that settling works out on its way and that no statement shows. Each is asked of the
 // function that settling asks.
+#![tactic(auto)]
 ghost use Rattle.std.specs.Prelude.{◌≡◌, cond, eqb};
 ghost use Rattle.exact.specs.Total.{total};
 ghost use Rattle.body.specs.Layout.{hour_at, mec_at, demands_of};
@@ -13,7 +14,7 @@ use surcharge::{Day, Terms};
 use units::{Cents, MarketPrice, Quantity};
 
 // The shortage of an hour: U, Q and the tier, whether it is a peak hour and needs its price, and m in quarters.
-#[derive(Drop)]
+#[derive(Clone, Copy)]
 pub struct Shortage {
     pub upward: Quantity,
     pub requirement: Quantity,
@@ -24,7 +25,7 @@ pub struct Shortage {
 }
 
 // The price of an hour: whether there is one, what it is, and how many intervals have one.
-#[derive(Drop)]
+#[derive(Clone, Copy)]
 pub struct Priced {
     pub there: bool,
     pub price: MarketPrice,

@@ -2,6 +2,7 @@
 // gives. Amounts are cents, prices ten-thousandths of a dollar. A day here is one area of kind 0 with one coordinator: an
 // hour is 33 words, the first hour's begin at word 15. Days are handed on by value, in room for the longest body: lent,
 // each write would cost the check of this program four times as much.
+#![tactic(auto)]
 use recording::Record;
 use sharing::Row;
 use verdict::Verdict;

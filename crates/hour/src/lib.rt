@@ -1,5 +1,7 @@
 // The check of one hour of a body: its eight numbers, its intervals and its demands, the first word that breaks its rule, and whether the hour is plain.
 // Most hours are accepted: an hour is judged without a branch first, and word by word only where it is not accepted.
+#![tactic(auto)]
+
 ghost use Rattle.std.specs.Prelude.{◌≡◌, ℕ, ◌+◌, ◌*◌, ◌<◌, ◌≤◌, not, ◌&&◌, ◌||◌, leb, length, if◌then◌else◌, ◌==◌, nat_le, unsigned_abs};
 ghost use Rattle.exact.specs.Total.{total};
 ghost use Rattle.words.specs.Word.{signed_of};
@@ -14,7 +16,7 @@ ghost use Rattle.hour.specs.Check.{range_rule, pair_rule, demand_rule, deficienc
 use verdict::Verdict;
 
 // What is told of an hour: the first word that breaks its rule, and whether the hour is plain.
-#[derive(Drop)]
+#[derive(Clone, Copy)]
 pub struct Told {
     pub answer: Verdict,
     pub plain: bool,
@@ -200,7 +202,7 @@ pub fn numbers_gathered(body: &[u8], at: usize) -> u32
 }
 
 // What is gathered of some intervals: 0 exactly if all are in range, how many have a price, and the quantities of these joined bit by bit.
-#[derive(Drop)]
+#[derive(Clone, Copy)]
 struct Gathering {
     outside: u32,
     present: u32,

@@ -1,5 +1,6 @@
 // An hour at a glance: where no price is missing and no number is near its bound, its intervals are judged by their words joined bit by bit, which is about
 // half the work of gathering them.
+#![tactic(auto)]
 ghost use Rattle.std.specs.Prelude.{◌≡◌, ◌+◌, ◌*◌, ◌<◌, ◌≤◌, true, not, ◌&&◌, length, ◌==◌, nat_lt};
 ghost use Rattle.hour.specs.Layout.{hour_words};
 ghost use Rattle.hour_glance.specs.Joined.{JoinedFrom, near, small};
@@ -13,7 +14,7 @@ const NEAR: u32 = 33554432;
 const SMALL: u32 = 8388608;
 
 // The quantities of some intervals, and their prices raised, each joined bit by bit.
-#[derive(Drop)]
+#[derive(Clone, Copy)]
 struct Joined {
     quantities: u32,
     prices: u32,

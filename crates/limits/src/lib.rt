@@ -1,5 +1,7 @@
 // The ranges of docs/RULES.md, section 2, a name for each number, and the bounds that an edition of the day file sets. Whatever depends on an edition's bounds
 // takes them as given numbers. specs/Ranges.antt and specs/Editions.antt have the same names.
+#![tactic(auto)]
+
 ghost use Rattle.std.specs.Prelude.{◌≡◌};
 ghost use Rattle.limits.specs.Editions.{edition_one, limits_of, bytes_allowed};
 
@@ -59,7 +61,7 @@ pub const MOST_POINTS: usize = 2;
 
 pub const MOST_BYTES: usize = 65536;
 
-#[derive(Drop)]
+#[derive(Clone, Copy)]
 pub struct Limits {
     // the most areas in a file
     pub areas: u32,

@@ -1,10 +1,11 @@
 // Where a word of a day file stands: which area and hour it belongs to, and which number it is. So the place of a refusal is told.
+#![tactic(auto)]
 ghost use Rattle.std.specs.Prelude.{◌≡◌, ◌&&◌, ◌+◌, ◌/◌, ◌<◌, ◌≤◌, leb, ltb};
 ghost use Rattle.locating.specs.Locating.{word_within, start_within, head_field, entry_field, body_field, number_field, interval_field, hour_field, holder_from, in_body};
 ghost use Rattle.locating.specs.Locating.{place_of};
 
 // Which number a word is; of coordinators, intervals and demands which one, from 1.
-#[derive(Drop)]
+#[derive(Clone, Copy)]
 pub enum Field {
     Edition,
     TradingDay,
@@ -36,7 +37,7 @@ pub enum Field {
 }
 
 // The place of a word: which entry of the contents, from 1, and the hour ending, each 0 where there is none.
-#[derive(Drop)]
+#[derive(Clone, Copy)]
 pub struct Place {
     pub entry: usize,
     pub hour: usize,

@@ -1,4 +1,6 @@
 // The marks of an area: thirty days in one number, by arithmetic.
+#![tactic(auto)]
+
 ghost use Rattle.std.specs.Prelude.{◌≡◌};
 ghost use Rattle.marks.specs.Marks.{aged, counted};
 

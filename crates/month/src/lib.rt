@@ -1,4 +1,5 @@
 // Settles a month book into one statement: the call `settle_month`.
+#![tactic(auto)]
 ghost use Rattle.std.specs.Prelude.{◌≡◌, ◌++◌, ◌≤◌, min, length, drop};
 ghost use Rattle.settlement.specs.Settlement.{settle_of};
 ghost use Rattle.book.specs.Read.{count_of, days_of};
@@ -8,7 +9,7 @@ ghost use Rattle.month_rules.specs.Month.{numbers_taken, settled_day, places_of,
 use verdict::Verdict;
 
 // The answer of a day, and how many of the numbers that were left it takes: all of them where they are too few.
-#[derive(Drop)]
+#[derive(Clone, Copy)]
 struct DayPart {
     answer: Verdict,
     numbers: usize,

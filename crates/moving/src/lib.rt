@@ -1,4 +1,6 @@
 // Bytes moved within lent room, and written into it.
+#![tactic(auto)]
+
 ghost use Rattle.std.specs.Prelude.{◌≡◌, ◌+◌, ◌*◌, ◌≤◌, length, replicate};
 ghost use Rattle.words.specs.Bytes.{word_bytes};
 ghost use Rattle.moving.specs.Written.{written, part};

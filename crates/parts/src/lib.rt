@@ -1,1 +1,2 @@
 // A day file by its parts: definitions and laws alone, in specs/ and proofs/.
+#![tactic(auto)]

@@ -1,1 +1,2 @@
 // The theorems about what is paid out: definitions and proofs alone, in specs/ and proofs/.
+#![tactic(auto)]

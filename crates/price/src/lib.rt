@@ -1,4 +1,5 @@
 // The load-weighted price of an hour: an average that is built up one interval at a time.
+#![tactic(auto)]
 ghost use Rattle.std.specs.Prelude.{◌≡◌, ◌+◌, ◌*◌, ◌^◌, ◌<◌, ◌≤◌, length, FitsSigned};
 ghost use Rattle.std.specs.Int.{w64};
 ghost use Rattle.limits.specs.Ranges.{proved_points, proved_intervals};
@@ -10,14 +11,14 @@ ghost use Rattle.price.specs.Sums.{empty_sums, with_raised, average_from};
 use units::{CentsOver100000, MarketPrice, Quantity, RaisedCentsOver100000, RaisedPrice};
 
 // The sum of quantity × price over the intervals whose price is present, the sum of the same quantities, and how many these intervals are.
-#[derive(Drop)]
+#[derive(Clone, Copy)]
 pub struct Average {
     pub value: CentsOver100000,
     pub quantity: Quantity,
     pub count: u32,
 }
 
-#[derive(Drop)]
+#[derive(Clone, Copy)]
 pub enum PriceAnswer {
     Price { price: MarketPrice, count: u32 },
     BadLength,
@@ -27,7 +28,7 @@ pub enum PriceAnswer {
 
 // What an average is built up from, one interval at a time. A price is taken 2^31 higher: then no product is below 0, and a missing price, the lowest of all words,
 // comes to 0. So every interval is added alike, without a branch, and the compiler takes several at a time.
-#[derive(Drop)]
+#[derive(Clone, Copy)]
 pub struct Sums {
     pub value: RaisedCentsOver100000,
     pub quantity: Quantity,

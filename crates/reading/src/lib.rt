@@ -1,4 +1,5 @@
 // What the programs read a day file and a statement with: the room for the longest of each, the numbers of a statement, and their sum.
+#![tactic(auto)]
 ghost use Rattle.std.specs.Prelude.{◌≡◌, ◌+◌, length};
 ghost use Rattle.limits.specs.Editions.{most_bytes};
 ghost use Rattle.settlement.specs.Settlement.{most_numbers};

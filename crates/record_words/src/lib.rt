@@ -1,4 +1,6 @@
 // The record of failing days as words, in which it is kept from one day to the next.
+#![tactic(auto)]
+
 ghost use Rattle.record_words.specs.Words.{Says};
 
 use recording::{Place, Record};

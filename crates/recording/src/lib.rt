@@ -1,17 +1,19 @@
 // The record of failing days: the last day entered, and for each area with a marked day its marks. It moves on by some days, and an area is
 // marked in it.
+#![tactic(auto)]
+
 ghost use Rattle.std.specs.Prelude.{◌≡◌, [], ◌++◌, take, drop, ◌+◌, ◌-◌, ◌≤◌, ◌<◌};
 ghost use Rattle.limits.specs.Editions.{most_held};
 ghost use Rattle.recording.specs.Record.{place, entries, record_of, pushed, kept, leading, marked, marks_of, Sound, answered};
 
-#[derive(Drop)]
+#[derive(Clone, Copy)]
 pub struct Place {
     pub area: u32,
     pub marks: u32,
 }
 
 // Places behind the areas held are 0, 0.
-#[derive(Drop)]
+#[derive(Clone, Copy)]
 pub struct Record {
     // YYYYMMDD; 0 where no day was entered
     pub last: u32,
@@ -20,7 +22,7 @@ pub struct Record {
 }
 
 // What marking gives: where it is refused, the record as it was.
-#[derive(Drop)]
+#[derive(Clone, Copy)]
 pub struct Marking {
     pub refused: bool,
     pub after: Record,

@@ -1,4 +1,5 @@
 // Settles a day file for a host written in C. The statement is bytes, eight little-endian bytes a number, two's complement.
+#![tactic(auto)]
 ghost use Rattle.std.specs.Prelude.{◌≡◌, ◌++◌, ◌*◌, ◌≤◌, length, drop};
 ghost use Rattle.verdict.specs.Verdict.{coded};
 ghost use Rattle.encoding.specs.Encoding.{encoded};

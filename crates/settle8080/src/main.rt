@@ -1,5 +1,6 @@
 // The program: settles the day file on standard input and prints its charges, or why it is refused. All that is decided is
 // decided by `settlement::settle`; here the file is read, and the statement is printed.
+#![tactic(auto)]
 ghost use Rattle.std.specs.Prelude.{◌≤◌};
 ghost use Rattle.limits.specs.Ranges.{most_coordinators};
 ghost use Rattle.limits.specs.Editions.{most_areas};
@@ -25,7 +26,7 @@ fn coordinators(body: &[u8]) -> usize
 }
 
 // What is printed: whether all of it was written, and the sum of its charges.
-#[derive(Drop)]
+#[derive(Clone, Copy)]
 struct Printed {
     written: bool,
     total: i64,

@@ -1,4 +1,5 @@
 // Sharing one amount among coordinators by their running demands, over number slices and over words of a file.
+#![tactic(auto)]
 ghost use Rattle.std.specs.Prelude.{◌≡◌, ◌++◌, ◌+◌, ◌*◌, ◌/◌, ◌≤◌, ◌<◌, ◌^◌, true, false, cond, ◌||◌, eqb, leb, ltb, nat_abs, length, drop};
 ghost use Rattle.exact.specs.Round.{half_up};
 ghost use Rattle.exact.specs.Total.{total};
@@ -40,7 +41,7 @@ pub fn sum_of_words(bytes: &[u8], from: usize, count: usize) -> u32
 
 // What an amount A comes to for each thousandth of a demand T: whole cents, what of A these leave over, and of that the 2^32ths of a cent. Two divisions
 // for all of an hour's charges. Where that gains nothing there are no rates, and each charge is divided.
-#[derive(Drop)]
+#[derive(Clone, Copy)]
 pub struct Rates {
     pub divided: bool,
     pub each: u64,

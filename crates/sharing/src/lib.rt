@@ -1,11 +1,12 @@
 // The sharing call: an amount shared over a lent table of rows, which is checked first.
+#![tactic(auto)]
 ghost use Rattle.std.specs.Prelude.{◌≡◌, min, take};
 ghost use Rattle.sharing.specs.Rows.{SharedRows};
 ghost use Rattle.sharing.specs.Columns.{table_of, SharedTable};
 
 use verdict::Verdict;
 
-#[derive(Drop)]
+#[derive(Clone, Copy)]
 pub struct Row {
     pub coordinator: u32,
     pub demand: u32,
@@ -15,7 +16,7 @@ pub struct Row {
 pub const ROWS_BY_VALUE: usize = 70;
 
 // A copy of a lent table: how many rows there are, and a column for each field of the first ones.
-#[derive(Drop)]
+#[derive(Clone, Copy)]
 struct Table {
     count: usize,
     coordinators: [u32; limits::MOST_COORDINATORS],

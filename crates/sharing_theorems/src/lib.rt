@@ -1,1 +1,2 @@
 // The theorems about the sharing call: definitions and proofs alone, in specs/ and proofs/.
+#![tactic(auto)]

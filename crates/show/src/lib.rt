@@ -1,5 +1,7 @@
 // What the programs write on standard output: numbers in decimal, single spaces, line ends. A call that answers says whether
 // all of it was written; `numbers` answers nothing.
+#![tactic(auto)]
+
 use libc::STDOUT_FILENO;
 
 pub fn text(bytes: &[u8]) -> bool {

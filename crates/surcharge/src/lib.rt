@@ -1,4 +1,6 @@
 // The surcharge by its formulas: tiers, peak hours, S, the credit, and each amount, over plain numbers.
+#![tactic(auto)]
+
 ghost use Rattle.std.specs.Prelude.{◌≡◌, ◌≤◌, nat_abs};
 ghost use Rattle.limits.specs.Ranges.{most_market_price, most_hub_price, most_upward};
 ghost use Rattle.surcharge.specs.Surcharge.{tier_of, peak_hour, quarters, scaled_multiplier, surcharge_of, credit_of, on_peak_of, off_peak_of, downward_of};
@@ -14,14 +16,14 @@ const TIER_FLOOR: u32 = 10000;
 const DOWNWARD_FLOOR: u32 = 10000;
 
 // What an area's day is settled under: the file's peak word, and the area's persistent days d.
-#[derive(Drop)]
+#[derive(Clone, Copy)]
 pub struct Terms {
     pub peak: u32,
     pub days: u32,
 }
 
 // The facts of an area's day: day tier, M, and S, which every peak hour has: exact, and as it is shown.
-#[derive(Drop)]
+#[derive(Clone, Copy)]
 pub struct Day {
     pub tier: u32,
     pub most: Quantity,
@@ -30,7 +32,7 @@ pub struct Day {
 }
 
 // What a peak hour comes to, and the credit that was taken off: each rounded once, from what is exact.
-#[derive(Drop)]
+#[derive(Clone, Copy)]
 pub struct OnPeak {
     pub amount: Cents,
     pub credit: Cents,

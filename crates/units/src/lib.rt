@@ -1,5 +1,7 @@
 // The units of docs/RULES.md, section 1, each a struct of one number, so that megawatts, dollars a megawatt-hour and dollars stay apart.
 // A quantity times a price is an amount over that product's own denominator; nothing here adds one unit to another.
+#![tactic(auto)]
+
 ghost use Rattle.std.specs.Prelude.{◌≡◌, ◌+◌, ◌*◌, ◌<◌, ◌^◌, pos, ◌+ℤ◌, ◌-ℤ◌, ◌*ℤ◌};
 ghost use Rattle.std.specs.Int.{w32, w64};
 ghost use Rattle.std.proofs.Common.{SFits};
@@ -7,43 +9,43 @@ ghost use Rattle.exact.specs.Round.{round_div};
 ghost use Rattle.exact.specs.Floor.{at_least_zero, at_most_zero};
 
 // Thousandths of a MW or MWh.
-#[derive(Drop)]
+#[derive(Clone, Copy)]
 pub struct Quantity(pub u32);
 
 // Whole cents per MWh.
-#[derive(Drop)]
+#[derive(Clone, Copy)]
 pub struct HubPrice(pub i32);
 
 // $0.0001 per MWh.
-#[derive(Drop)]
+#[derive(Clone, Copy)]
 pub struct MarketPrice(pub i32);
 
 // A market price as a word, 2^31 higher: never below 0, and 0 where it is the lowest of all words.
-#[derive(Drop)]
+#[derive(Clone, Copy)]
 pub struct RaisedPrice(pub u32);
 
 // A quantity at such a price: cents, over 100,000.
-#[derive(Drop)]
+#[derive(Clone, Copy)]
 pub struct RaisedCentsOver100000(pub u64);
 
 // Whole cents, signed.
-#[derive(Drop)]
+#[derive(Clone, Copy)]
 pub struct Cents(pub i64);
 
 // A quantity at a hub price: cents, over 1,000.
-#[derive(Drop)]
+#[derive(Clone, Copy)]
 pub struct CentsOver1000(pub i64);
 
 // A quantity at a market price: cents, over 100,000.
-#[derive(Drop)]
+#[derive(Clone, Copy)]
 pub struct CentsOver100000(pub i64);
 
 // S or a credit: cents, over 400,000, the one denominator of both.
-#[derive(Drop)]
+#[derive(Clone, Copy)]
 pub struct CentsOver400000(pub i64);
 
 // A quantity at a market price, times a multiplier of so many four-hundredths: cents, over 40,000,000.
-#[derive(Drop)]
+#[derive(Clone, Copy)]
 pub struct CentsOver40000000(pub i64);
 
 impl Quantity {

@@ -1,5 +1,6 @@
 // Runs the library's public calls on a stream of cases from standard input, and prints a line for each.
 // A case is four words (the call, x, y, the number of payload bytes) and its payload; the stream ends where no whole case follows.
+#![tactic(auto)]
 ghost use Rattle.std.specs.Prelude.{◌≡◌, ◌+◌, ◌*◌, ◌≤◌, ◌<◌, ◌^◌, length};
 ghost use Rattle.sharing.specs.Rows.{rows_by_value};
 ghost use Rattle.record_words.specs.Words.{record_words};

@@ -1,9 +1,11 @@
 // The answer of every call: accepted, or the rule of docs/RULES.md that is broken, with its place.
+#![tactic(auto)]
+
 ghost use Rattle.std.specs.Prelude.{◌≡◌, ◌<◌};
 ghost use Rattle.verdict.specs.Verdict.{number_of, place_of, coded};
 
 // A case for each refusal of docs/RULES.md, in the order of their numbers. Each case's number and place are those of specs/Verdict.antt.
-#[derive(Drop)]
+#[derive(Clone, Copy)]
 pub enum Verdict {
     Accepted,
     BadLength,

@@ -1,4 +1,6 @@
 // Little-endian words of 32 bits, two's complement where signed.
+#![tactic(auto)]
+
 ghost use Rattle.std.specs.Prelude.{◌≡◌, ◌+◌, ◌*◌, ◌≤◌, length, unsigned_abs};
 ghost use Rattle.words.specs.Word.{word_at, signed_of};
 

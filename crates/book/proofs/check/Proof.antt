@@ -33,39 +33,34 @@ module _ (room : List ℕ) (long : 2 ≤ room_words room) (one : word_at room 0 
       → book_rule room ≡ (scan (entry_rule_at room) 0 n or_else scan (date_rule_at room) 0 n)
   whole n e h k = rw (past_first, ← e, le-leb n most_book_days h, le-leb (2 + 3 * n) (room_words room) k)
 
-returns : tie.Need-returns
+returns : tie.Need-returns-then-words-lt2
 unfolding book_rule
 returns c = search tests
 
-returns-2 : tie.Need-returns-2
+returns-2 : tie.Need-returns-then-word-ne1
 unfolding book_rule
 returns-2 c =
-    let no = ne_eqb _ _ (λ q. c.if2.true (c.before.word.ensures ∙ q)) in
+    let no = ne_eqb _ _ (λ q. c.if-word-ne1.true (c.word.ensures ∙ q)) in
     search (tests, no, rules)
 
-returns-3 : tie.Need-returns-3
+returns-3 : tie.Need-returns-then-n-gt-MOST_BOOK_DAYS
 returns-3 c =
-    let e = c.before.before in
-    too_many _ e.before.before.if1.false (sym e.before.word.ensures ∙ e.if2.false) _ c.before.word2.ensures c.if3.true
+    too_many _ c.if-words-lt2.false (sym c.word.ensures ∙ c.if-word-ne1.false) _ c.word-n.ensures c.if-n-gt-MOST_BOOK_DAYS.true
 
-returns-4 : tie.Need-returns-4
+returns-4 : tie.Need-returns-then-words-n
 returns-4 c =
-    let e = c.before.before.before in
-    too_short _ e.before.before.if1.false (sym e.before.word.ensures ∙ e.if2.false) _ c.before.before.word2.ensures c.before.if3.false
-    c.if4.true
+    too_short _ c.if-words-lt2.false (sym c.word.ensures ∙ c.if-word-ne1.false) _ c.word-n.ensures c.if-n-gt-MOST_BOOK_DAYS.false
+    c.if-words-n.true
 
-check-days-requires : tie.Need-check-days-requires
-check-days-requires c κs = (c.before.before.word2.ensures, (c.before.if3.false, omega arith))
+check-days-requires : tie.Need-check_days-requires
+check-days-requires c κs = (c.word-n.ensures, (c.if-n-gt-MOST_BOOK_DAYS.false, omega arith))
 
-returns-5 : tie.Need-returns-5
+returns-5 : tie.Need-returns
 returns-5 c =
-    let l = c.before in
-    let e = l.before.before.before in
-    c.check-days.ensures
-    ∙ sym (whole _ e.before.before.if1.false (sym e.before.word.ensures ∙ e.if2.false) _ l.before.before.word2.ensures l.before.if3.false
-    l.if4.false)
+    c.check_days.ensures
+    ∙ sym (whole _ c.if-words-lt2.false (sym c.word.ensures ∙ c.if-word-ne1.false) _ c.word-n.ensures c.if-n-gt-MOST_BOOK_DAYS.false
+    c.if-words-n.false)
 
-pub check-spec : {M : Type 1} → statement M
-check-spec =
-    tie.close (tie.spec returns (λ c κs. search rules) returns-2 (λ c κs. search rules) (λ c. search rules) returns-3 (λ c. search rules)
-    (λ c. search rules) returns-4 check-days-requires returns-5)
+pub check_spec : {M : Type 1} → statement M
+check_spec =
+    tie.close (tie.spec returns (λ c κs. search rules) returns-2 (λ c κs. search rules) (λ c. search rules) returns-3 (λ c. search rules) (λ c. search rules) returns-4 check-days-requires returns-5)

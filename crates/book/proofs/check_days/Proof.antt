@@ -7,20 +7,18 @@ use borrow.Author.Rules.{rules}
 use Rattle.book.proofs.check_days.Statement.{statement}
 use Rattle.book.proofs.check_days.Tie as tie
 
-returns : tie.Need-returns
-returns c = seq_stop _ _ _ _ _ refl c.before.before.contents.ensures c.before.number.ensures c.if1.true
+returns : tie.Need-returns-then-number-ne0
+returns c = seq_stop _ _ _ _ _ refl c.contents-first.ensures c.number.ensures c.if-number-ne0.true
 
 dates-requires : tie.Need-dates-requires
 dates-requires c κs =
-    let s = c.before.before.before.before in
-    let z = ap number_of (sym c.before.before.contents.ensures) ∙ sym c.before.number.ensures ∙ c.if1.false in
-    (s.requires.0, sound_contents _ (omega (arith, s.requires.0, s.requires.1.0)) (omega (arith, s.requires.0, s.requires.1.1)) (rw s.requires.0 at z))
+    let z = ap number_of (sym c.contents-first.ensures) ∙ sym c.number.ensures ∙ c.if-number-ne0.false in
+    (c.requires.0, sound_contents _ (omega (arith, c.requires.0, c.requires.1.0)) (omega (arith, c.requires.0, c.requires.1.1)) (rw c.requires.0 at z))
 
-returns-2 : tie.Need-returns-2
+returns-2 : tie.Need-returns
 returns-2 c =
-    let e = c.before in
-    c.dates.ensures ∙ sym (seq_next _ _ _ _ _ refl e.before.before.contents.ensures e.before.number.ensures e.if1.false)
+    c.dates.ensures ∙ sym (seq_next _ _ _ _ _ refl c.contents-first.ensures c.number.ensures c.if-number-ne0.false)
 
-pub check-days-spec : {M : Type 1} → statement M
-check-days-spec =
+pub check_days_spec : {M : Type 1} → statement M
+check_days_spec =
     tie.close (tie.spec (λ c κs. search rules) (λ c κs. search rules) returns dates-requires returns-2)

@@ -15,59 +15,51 @@ use borrow.Author.Rules.{rules}
 use Rattle.book.proofs.contents.Statement.{statement}
 use Rattle.book.proofs.contents.Tie as tie
 
-abbrev invariant-loop : tie.invariant-loop
-invariant-loop book n words before₀ due₀ k₀ before due k =
+abbrev invariant-loop-k : tie.invariant-loop-k
+invariant-loop-k book n words before₀ due₀ k₀ before due k =
     (k ≤ n) × (before ≡ date_before book k) × (due ≡ due_at book k) × (due ≤ length book / 4)
     × (scan (entry_rule_at book) 0 n ≡ scan (entry_rule_at book) k (n - k))
 
-abbrev decreases-loop : tie.decreases-loop
-decreases-loop book n words before₀ due₀ k₀ before due k = n - k
+abbrev decreases-loop-k : tie.decreases-loop-k
+decreases-loop-k book n words before₀ due₀ k₀ before due k = n - k
 
-turn : (c : tie.After-entry invariant-loop decreases-loop) →
-    let s = c.before.before.before.before.before.before.before.args in
-    c.entry.result ≡ entry_rule_at s.book.now c.before.before.before.before.before.loop.k
+turn : (c : tie.After-entry-v invariant-loop-k decreases-loop-k) →
+    let s = c.args in
+    c.entry-v.result ≡ entry_rule_at s.book.now c.loop-k.k
 unfolding entry_rule_at
 turn c =
-    let l = c.before.before.before.before.before.loop in
-    c.entry.ensures ∙ rw (l.invariant.1, l.invariant.2, c.before.before.before.word.ensures, c.before.before.word2.ensures, c.before.word3.ensures)
+    let l = c.loop-k in
+    c.entry-v.ensures ∙ rw (l.invariant.1, l.invariant.2, c.word-date.ensures, c.word-start.ensures, c.word-size.ensures)
 
-loop-holds : tie.Need-loop-init invariant-loop decreases-loop
+loop-holds : tie.Need-loop-k-init invariant-loop-k decreases-loop-k
 unfolding date_before
 loop-holds c =
-    let s = c.before in
-    (omega arith, refl, omega (arith, s.requires.0, due_first s.args.book.now), omega arith, rw sub-zero)
+    (omega arith, refl, omega (arith, c.requires.0, due_first c.args.book.now), omega arith, rw sub-zero)
 
-returns : tie.Need-returns invariant-loop decreases-loop
+returns : tie.Need-returns-then-number-ne0 invariant-loop-k decreases-loop-k
 returns c =
-    let i = c.before.before.before.before.before.before in
-    loop_stop _ _ _ _ _ _ i.before.loop.invariant.4 i.loop-test.true (turn c.before.before) c.before.number.ensures c.if1.true
+    loop_stop _ _ _ _ _ _ c.loop-k.invariant.4 c.loop-k-test.true (turn c.before.before) c.number.ensures c.if-number-ne0.true
 
 -- the entry of this turn is accepted
-accepted : (c : tie.Else1 invariant-loop decreases-loop) →
-    let i = c.before.before.before.before.before.before in
-    EntryAt i.before.before.before.args.book.now i.before.loop.k
-accepted c = entry_there _ _ (ap number_of (sym (turn c.before.before)) ∙ sym c.before.number.ensures ∙ c.if1.false)
+accepted : (c : tie.Else-number-ne0 invariant-loop-k decreases-loop-k) →
+    EntryAt c.args.book.now c.loop-k.k
+accepted c = entry_there _ _ (ap number_of (sym (turn c.before.before)) ∙ sym c.number.ensures ∙ c.if-number-ne0.false)
 
-loop-again : tie.Need-loop-preserved invariant-loop decreases-loop
+loop-again : tie.Need-loop-k-preserved invariant-loop-k decreases-loop-k
 unfolding date_before
 loop-again c =
-    let i = c.before.before.before.before.before.before in
-    let l = i.before.loop in
-    let w = c.before.before.before in
+    let l = c.loop-k in
     let kept = accepted c in (
       omega arith,
-      rw add-one w.before.before.word.ensures,
-      rw add-one (omega (arith, l.invariant.2, w.word3.ensures, due_suc i.before.before.before.args.book.now l.k)),
-      omega (arith, w.word3.ensures, kept.inside, l.invariant.2),
-      loop_next _ _ _ _ _ _ l.invariant.4 i.loop-test.true (turn c.before.before) c.before.number.ensures c.if1.false,
+      rw add-one c.word-date.ensures,
+      rw add-one (omega (arith, l.invariant.2, c.word-size.ensures, due_suc c.args.book.now l.k)),
+      omega (arith, c.word-size.ensures, kept.inside, l.invariant.2),
+      loop_next _ _ _ _ _ _ l.invariant.4 c.loop-k-test.true (turn c.before.before) c.number.ensures c.if-number-ne0.false,
     )
 
-returns-2 : tie.Need-returns-2 invariant-loop decreases-loop
+returns-2 : tie.Need-returns invariant-loop-k decreases-loop-k
 returns-2 c = search loop_done
 
-pub contents-spec : {M : Type 1} → statement M
-contents-spec =
-    tie.close (tie.spec invariant-loop decreases-loop (λ c. search rules) (λ c. search rules) loop-holds (λ c. search rules) (λ c. search rules)
-    (λ c κs. search rules) (λ c. search rules) (λ c κs. search rules) (λ c. search rules) (λ c. search rules) (λ c κs. search rules)
-    (λ c. search rules) (λ c κs. search rules) (λ c κs. search rules) returns (λ c. search rules) (λ c. search rules) (λ c. search rules) loop-again
-    returns-2)
+pub contents_spec : {M : Type 1} → statement M
+contents_spec =
+    tie.close (tie.spec invariant-loop-k decreases-loop-k (λ c. search rules) (λ c. search rules) loop-holds (λ c. search rules) (λ c. search rules) (λ c κs. search rules) (λ c. search rules) (λ c κs. search rules) (λ c. search rules) (λ c. search rules) (λ c κs. search rules) (λ c. search rules) (λ c κs. search rules) (λ c κs. search rules) returns (λ c. search rules) (λ c. search rules) (λ c. search rules) loop-again returns-2)

@@ -14,14 +14,12 @@ part-result-end c =
 
 returns : tie.Need-returns
 returns c =
-    let book = c.before.before.before.before.args.book.now in
-    let start = c.before.before.word in
-    let size = c.before.word2 in
+    let book = c.args.book.now in
+    let start = c.word in
+    let size = c.word-2 in
     let p : 4 * start.result + 4 * size.result - 4 * start.result ≡ 4 * size.result = omega arith in
     ap (λ (m : ℕ). take m (drop (4 * start.result) book)) p ∙ rw (start.ensures, size.ensures)
 
-pub file-at-spec : {M : Type 1} → statement M
-file-at-spec =
-    tie.close (tie.spec (λ c. search rules) (λ c. search rules) (λ c. search rules) (λ c κs. search rules) (λ c. search rules) (λ c. search rules)
-    (λ c. search rules) (λ c κs. search rules) (λ c. search rules) (λ c. search rules) (λ c. search rules) (λ c. search rules) (λ c. search rules)
-    part-result-end returns)
+pub file_at_spec : {M : Type 1} → statement M
+file_at_spec =
+    tie.close (tie.spec (λ c. search rules) (λ c. search rules) (λ c. search rules) (λ c κs. search rules) (λ c. search rules) (λ c. search rules) (λ c. search rules) (λ c κs. search rules) (λ c. search rules) (λ c. search rules) (λ c. search rules) (λ c. search rules) (λ c. search rules) (λ c. search rules) returns)

@@ -9,12 +9,10 @@ use Rattle.encoding.proofs.number.Tie as tie
 
 returns : tie.Need-returns
 returns c =
-    let high = c.before in
-    let joined = ap₂ (λ l h. l + 4294967296 * h) high.before.word.ensures high.word2.ensures in
-    rw (got w64 c.of-bits.type-inv refl)
-    (number_in _ c.of-bits.result (record { sfits = c.of-bits.type-inv }) (c.of-bits.ensures ∙ joined))
+    let joined = ap₂ (λ l h. l + 4294967296 * h) c.word-low.ensures c.word.ensures in
+    rw (got w64 c.of_bits.type_inv refl)
+    (number_in _ c.of_bits.result (record { sfits = c.of_bits.type_inv }) (c.of_bits.ensures ∙ joined))
 
-pub number-spec : {M : Type 1} → statement M
-number-spec =
-    tie.close (tie.spec (λ c κs. search rules) (λ c. search rules) (λ c κs. search rules) (λ c. search rules) (λ c. search rules)
-    (λ c. search rules) (λ c κs. search rules) returns)
+pub number_spec : {M : Type 1} → statement M
+number_spec =
+    tie.close (tie.spec (λ c κs. search rules) (λ c. search rules) (λ c κs. search rules) (λ c. search rules) (λ c. search rules) (λ c. search rules) (λ c κs. search rules) returns)

@@ -18,22 +18,23 @@ fits : (k : ℕ) → k < 9223372036854775808 → SFits w64 (negsuc 0 -ℤ pos k)
 fits k h = rw (minus k) (record { sfits = h })
 
 -- how far below -1 the number is
-abbrev below : tie.Else1 → ℕ
+abbrev below : tie.Else-u-lt9223372036854775808 → ℕ
 below c = 18446744073709551615 - c.before.args.u
 
-same : (c : tie.Else1) → to_z w64 (below c) ≡ pos (below c)
+same : (c : tie.Else-u-lt9223372036854775808) → to_z w64 (below c) ≡ pos (below c)
 same c = to_z_pos w64 (below c) (omega arith)
 
-returns : tie.Need-returns
-returns c = rw (to_z_pos w64 c.before.args.u c.if1.true)
+returns : tie.Need-returns-then-u-lt9223372036854775808
+returns c = rw (to_z_pos w64 c.args.u c.if-u-lt9223372036854775808.true)
 
-sub-result-2 : tie.Need-overflow-sub-result-2
+sub-result-2 : tie.Need-overflow_sub-result-2
 sub-result-2 c = rw (same c) (fits (below c) (omega arith))
 
-returns-2 : tie.Need-returns-2
+returns-2 : tie.Need-returns
 returns-2 c =
-    let back : bits_of (negsuc (below c)) ≡ c.before.args.u = omega arith in
+    let back : bits_of (negsuc (below c)) ≡ c.args.u = omega arith in
     rw (same c) (ap bits_of (to_z-of_z w64 _ (fits (below c) (omega arith)) ∙ minus (below c)) ∙ back)
 
-pub of-bits-spec : {M : Type 1} → statement M
-of-bits-spec = tie.close (tie.spec (λ c. search rules) returns (λ c. search rules) (λ c. search rules) sub-result-2 returns-2)
+pub of_bits_spec : {M : Type 1} → statement M
+of_bits_spec =
+    tie.close (tie.spec (λ c. search rules) returns (λ c. search rules) (λ c. search rules) sub-result-2 returns-2)

@@ -11,12 +11,8 @@ use Rattle.encoding.proofs.put_number.Tie as tie
 returns : tie.Need-returns
 unfolding bytes_of
 returns c =
-    let s = c.before.before in
-    rw (c.bits.ensures, to_z-of_z w64 s.args.z s.ranges.z) (sets-eq (bytes_of (bits_of s.args.z)) s.args.bytes.now 0 s.requires)
+    rw (c.bits-u.ensures, to_z-of_z w64 c.args.z c.ranges.z) (sets-eq (bytes_of (bits_of c.args.z)) c.args.bytes.now 0 c.requires)
 
-pub put-number-spec : {M : Type 1} → statement M
-put-number-spec =
-    tie.close (tie.spec (λ c κs. search rules) (λ c. search rules) (λ c. search rules) (λ c. search rules) (λ c. simp length-set (omega arith))
-    (λ c. search rules) (λ c. simp length-set (omega arith)) (λ c. search rules) (λ c. simp length-set (omega arith)) (λ c. search rules)
-    (λ c. simp length-set (omega arith)) (λ c. search rules) (λ c. simp length-set (omega arith)) (λ c. search rules)
-    (λ c. simp length-set (omega arith)) (λ c. search rules) (λ c. simp length-set (omega arith)) (λ c. search rules) returns)
+pub put_number_spec : {M : Type 1} → statement M
+put_number_spec =
+    tie.close (tie.spec (λ c κs. search rules) (λ c. search rules) (λ c. search rules) (λ c. search rules) (λ c. simp length-set (omega arith)) (λ c. search rules) (λ c. simp length-set (omega arith)) (λ c. search rules) (λ c. simp length-set (omega arith)) (λ c. search rules) (λ c. simp length-set (omega arith)) (λ c. search rules) (λ c. simp length-set (omega arith)) (λ c. search rules) (λ c. simp length-set (omega arith)) (λ c. search rules) (λ c. simp length-set (omega arith)) (λ c. search rules) returns)

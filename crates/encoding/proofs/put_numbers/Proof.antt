@@ -11,40 +11,37 @@ use Rattle.encoding.proofs.Encoding.{encoded_step}
 use Rattle.encoding.proofs.put_numbers.Statement.{statement}
 use Rattle.encoding.proofs.put_numbers.Tie as tie
 
-abbrev invariant-loop : tie.invariant-loop
-invariant-loop numbers bytes₀ i₀ bytes i =
+abbrev invariant-loop-i : tie.invariant-loop-i
+invariant-loop-i numbers bytes₀ i₀ bytes i =
     (i ≤ length numbers) × (bytes ≡ encoded (take i numbers) ++ drop (8 * i) bytes₀) × (length bytes ≡ length bytes₀)
 
-abbrev decreases-loop : tie.decreases-loop
-decreases-loop numbers bytes₀ i₀ bytes i = length numbers - i
+abbrev decreases-loop-i : tie.decreases-loop-i
+decreases-loop-i numbers bytes₀ i₀ bytes i = length numbers - i
 
-loop-holds : tie.Need-loop-init invariant-loop decreases-loop
+loop-holds : tie.Need-loop-i-init invariant-loop-i decreases-loop-i
 unfolding encoded
 loop-holds c = (omega arith, refl, refl)
 
-loop-again : tie.Need-loop-preserved invariant-loop decreases-loop
+loop-again : tie.Need-loop-i-preserved invariant-loop-i decreases-loop-i
 loop-again c =
-    let stored = c.before.before in
-    let turn = stored.before.before.before.before in
-    let s = turn.before.before.args in
-    let l = turn.loop in
+    let s = c.args in
+    let l = c.loop-i in
     let h : l.i < length s.numbers.now = omega arith in (
       omega arith,
-      encoded_step s.numbers.now l.i _ s.bytes.now l.bytes stored.put-number.new.1.0 h
-          (got w64 stored.before.before.put-number-arg.given refl) l.invariant.1 stored.put-number.ensures,
+      encoded_step s.numbers.now l.i _ s.bytes.now l.bytes c.put_number.new.bytes h
+          (got w64 c.put_number-arg-1.given refl) l.invariant.1 c.put_number.ensures,
       omega arith,
     )
 
-same_length : tie.Need-same-length invariant-loop decreases-loop
-same_length c = c.before.loop.invariant.2
+same_length : tie.Need-shape_of-bytes invariant-loop-i decreases-loop-i
+same_length c = c.loop-i.invariant.2
 
-returns : tie.Need-returns invariant-loop decreases-loop
+returns : tie.Need-returns invariant-loop-i decreases-loop-i
 returns c =
-    let numbers = c.before.before.before.args.numbers.now in
-    let e : c.before.loop.i ≡ length numbers = omega arith in
-    rw (e, take_all (length numbers) numbers (omega arith)) at c.before.loop.invariant.1
+    let numbers = c.args.numbers.now in
+    let e : c.loop-i.i ≡ length numbers = omega arith in
+    rw (e, take_all (length numbers) numbers (omega arith)) at c.loop-i.invariant.1
 
-pub put-numbers-spec : {M : Type 1} → statement M
-put-numbers-spec =
-    tie.close (tie.spec invariant-loop decreases-loop loop-holds (λ c. omega arith) (λ c. omega arith) (λ c. omega arith) (λ c. omega arith) (λ c. omega arith)
-    (λ c. omega arith) (λ c κs. omega arith) (λ c. omega arith) (λ c. omega arith) loop-again same_length returns)
+pub put_numbers_spec : {M : Type 1} → statement M
+put_numbers_spec =
+    tie.close (tie.spec invariant-loop-i decreases-loop-i loop-holds (λ c. omega arith) (λ c. omega arith) (λ c. omega arith) (λ c. omega arith) (λ c. omega arith) (λ c. omega arith) (λ c κs. omega arith) (λ c. omega arith) (λ c. omega arith) loop-again same_length returns)

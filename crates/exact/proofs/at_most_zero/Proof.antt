@@ -5,11 +5,12 @@ use Rattle.exact.proofs.Floor.{negative, not_negative}
 use Rattle.exact.proofs.at_most_zero.Statement.{statement}
 use Rattle.exact.proofs.at_most_zero.Tie as tie
 
-returns : tie.Need-returns
-returns c = let s = c.before in let t = simp (to_z-of_z w64 _ s.ranges.z) at c.if1.true in to_z-of_z w64 _ s.ranges.z ∙ sym (negative s.args.z t).1
+returns : tie.Need-returns-then-z-lt0
+returns c = let s = c.before in let t = simp (to_z-of_z w64 _ s.ranges.z) at c.if-z-lt0.true in to_z-of_z w64 _ s.ranges.z ∙ sym (negative s.args.z t).1
 
-returns-2 : tie.Need-returns-2
-returns-2 c = let s = c.before in let t = simp (to_z-of_z w64 _ s.ranges.z) at c.if1.false in sym (not_negative s.args.z t).1
+returns-2 : tie.Need-returns
+returns-2 c = let s = c.before in let t = simp (to_z-of_z w64 _ s.ranges.z) at c.if-z-lt0.false in sym (not_negative s.args.z t).1
 
-pub at-most-zero-spec : {M : Type 1} → statement M
-at-most-zero-spec = tie.close (tie.spec returns returns-2)
+pub at_most_zero_spec : {M : Type 1} → statement M
+at_most_zero_spec =
+    tie.close (tie.spec returns returns-2)

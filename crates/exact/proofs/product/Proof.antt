@@ -20,11 +20,12 @@ fits c =
     let b : nat_abs c.args.b ≤ 2147483648 = nat_abs-le c.args.b c.ranges.b.sfits in
     within w64 _ (omega (arith, abs_mul≤ 4294967295 2147483648 (pos c.args.a) c.args.b (omega arith) b))
 
-mul-result : tie.Need-overflow-mul-result
+mul-result : tie.Need-overflow_mul-result
 mul-result c = rw (factors c) (fits c)
 
 returns : tie.Need-returns
 returns c = rw (factors c) (to_z-of_z w64 _ (fits c))
 
-pub product-spec : {M : Type 1} → statement M
-product-spec = tie.close (tie.spec (λ c. search rules) (λ c. word_fits c.ranges.b) mul-result returns)
+pub product_spec : {M : Type 1} → statement M
+product_spec =
+    tie.close (tie.spec (λ c. search rules) (λ c. word_fits c.ranges.b) mul-result returns)

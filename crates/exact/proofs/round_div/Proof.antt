@@ -87,44 +87,45 @@ twice-is s =
     let f = facts s in
     simp (to_z-of_z w64 _ s.ranges.a, f.divisor, to_z-of_z w64 _ f.remainder, to_z-of_z w64 _ f.twice)
 
-up_is : (c : tie.Then1) → let s = c.before.args in quot_z s.a (pos s.b) +ℤ pos 1 ≡ round_div s.a s.b
-up_is c = let s = c.before in up s.args.a s.args.b s.requires (rw (twice-is s, (facts s).divisor) at c.if1.true)
+up_is : (c : tie.Then-divisor-twice) → let s = c.before.args in quot_z s.a (pos s.b) +ℤ pos 1 ≡ round_div s.a s.b
+up_is c = let s = c.before in up s.args.a s.args.b s.requires (rw (twice-is s, (facts s).divisor) at c.if-divisor-twice.true)
 
-down_is : (c : tie.Then2) → let s = c.before.before.args in quot_z s.a (pos s.b) -ℤ pos 1 ≡ round_div s.a s.b
+down_is : (c : tie.Then-divisor-twice-le0) → let s = c.before.before.args in quot_z s.a (pos s.b) -ℤ pos 1 ≡ round_div s.a s.b
 down_is c =
     let s = c.before.before in
-    down s.args.a s.args.b s.requires (rw (twice-is s, (facts s).divisor, to_z-of_z w64 _ (facts s).sum) at c.if2.true)
+    down s.args.a s.args.b s.requires (rw (twice-is s, (facts s).divisor, to_z-of_z w64 _ (facts s).sum) at c.if-divisor-twice-le0.true)
 
-div-quotient : tie.Need-nonzero-div-quotient
+div-quotient : tie.Need-nonzero_div-quotient
 div-quotient c = let f = facts c in (c.requires, simp (to_z-of_z w64 _ c.ranges.a, f.divisor) f.quotient)
 
-rem-twice : tie.Need-nonzero-rem-twice
+rem-twice : tie.Need-nonzero_rem-twice
 rem-twice c = div-quotient c
 
-mul-twice : tie.Need-overflow-mul-twice
+mul-twice : tie.Need-overflow_mul-twice
 mul-twice c = let f = facts c in simp (to_z-of_z w64 _ c.ranges.a, f.divisor, to_z-of_z w64 _ f.remainder) f.twice
 
-add-result : tie.Need-overflow-add-result
+add-result : tie.Need-overflow_add-result
 add-result c = let s = c.before in rw (quotient_is s, up_is c) (round_fits s.args.b s.ranges.a)
 
-returns : tie.Need-returns
+returns : tie.Need-returns-then-divisor-twice
 returns c = let s = c.before in rw (quotient_is s, up_is c) (to_z-of_z w64 _ (round_fits s.args.b s.ranges.a))
 
-add-if2 : tie.Need-overflow-add-if2
+add-if2 : tie.Need-overflow_add-divisor
 add-if2 c = let s = c.before in rw (twice-is s, (facts s).divisor) (facts s).sum
 
-sub-result : tie.Need-overflow-sub-result
+sub-result : tie.Need-overflow_sub-result
 sub-result c = let s = c.before.before in rw (quotient_is s, down_is c) (round_fits s.args.b s.ranges.a)
 
-returns-2 : tie.Need-returns-2
+returns-2 : tie.Need-returns-then-divisor-twice-le0
 returns-2 c = let s = c.before.before in rw (quotient_is s, down_is c) (to_z-of_z w64 _ (round_fits s.args.b s.ranges.a))
 
-returns-3 : tie.Need-returns-3
+returns-3 : tie.Need-returns
 returns-3 c =
     let s = c.before.before in
     quotient_is s
-    ∙ stay s.args.a s.args.b (rw (twice-is s, (facts s).divisor) at c.before.if1.false)
-    (rw (twice-is s, (facts s).divisor, to_z-of_z w64 _ (facts s).sum) at c.if2.false)
+    ∙ stay s.args.a s.args.b (rw (twice-is s, (facts s).divisor) at c.before.if-divisor-twice.false)
+    (rw (twice-is s, (facts s).divisor, to_z-of_z w64 _ (facts s).sum) at c.if-divisor-twice-le0.false)
 
-pub round-div-spec : {M : Type 1} → statement M
-round-div-spec = tie.close (tie.spec (λ c. search rules) div-quotient rem-twice mul-twice add-result returns add-if2 sub-result returns-2 returns-3)
+pub round_div_spec : {M : Type 1} → statement M
+round_div_spec =
+    tie.close (tie.spec (λ c. search rules) div-quotient rem-twice mul-twice add-result returns add-if2 sub-result returns-2 returns-3)

@@ -19,31 +19,26 @@ told : (c : tie.After-accepted) →
     c.accepted.result ≡ eqb (number_of (hour_rule s.start s.body.now s.load s.count s.at)) 0
 told c =
     let s = (start c).args in
-    let demand = c.before.before in
-    let intervals = demand.before in
-    let gathered = bit_or intervals.before.numbers-gathered.result intervals.intervals-gathered.result.outside in
+    let gathered = bit_or c.numbers_gathered-numbers.result c.intervals_gathered-intervals.result.outside in
     c.accepted.ensures
-    ∙ ap (λ n. eqb gathered 0 && leb n most_demand) demand.demand-sum.ensures
+    ∙ ap (λ n. eqb gathered 0 && leb n most_demand) c.demand_sum-demand.ensures
     ∙ nothing_gathered s.start s.body.now s.load s.count s.at _ _
-    (intervals.before.numbers-gathered.ensures s.start) (intervals.intervals-gathered.ensures.accepted s.start)
+    (c.numbers_gathered-numbers.ensures s.start) (c.intervals_gathered-intervals.ensures.accepted s.start)
 
-returns : tie.Need-returns
+returns : tie.Need-returns-then-not-accepted
 returns c =
     let broken = c.first_broken.ensures in
-    let refused = ap (λ v. eqb (number_of v) 0) broken ∙ sym (told c.before.before) ∙ not-true _ c.before.if1.true in
+    let refused = ap (λ v. eqb (number_of v) 0) broken ∙ sym (told c.before.before) ∙ c.if-not-accepted.true in
     (broken, rw refused)
 
-returns-2 : tie.Need-returns-2
+returns-2 : tie.Need-returns
 unfolding plain_hour
 returns-2 c =
-    let a = c.before.before in
-    let demand = a.before.before in
-    let intervals = demand.before.intervals-gathered.ensures in (
-      sym (accepted_alone _ (eqb-true _ _ (sym (told a) ∙ not-false _ c.before.if1.false))),
-      c.plain.ensures ∙ rw (intervals.counted, intervals.some, demand.demand-sum.ensures),
+    let intervals = c.intervals_gathered-intervals.ensures in (
+      sym (accepted_alone _ (eqb-true _ _ (sym (told c.before.before) ∙ c.if-not-accepted.false))),
+      c.plain.ensures ∙ rw (intervals.counted, intervals.some, c.demand_sum-demand.ensures),
     )
 
-pub check-spec : {M : Type 1} → statement M
-check-spec =
-    tie.close (tie.spec (λ c κs. search rules) (λ c. search rules) (λ c. search rules) (λ c κs. search rules) (λ c. search rules) (λ c. search rules)
-    (λ c. search rules) (λ c κs. search rules) (λ c κs. search rules) (λ c κs. search rules) returns (λ c κs. search rules) returns-2)
+pub check_spec : {M : Type 1} → statement M
+check_spec =
+    tie.close (tie.spec (λ c κs. search rules) (λ c. search rules) (λ c. search rules) (λ c κs. search rules) (λ c. search rules) (λ c. search rules) (λ c. search rules) (λ c κs. search rules) (λ c κs. search rules) (λ c κs. search rules) returns (λ c κs. search rules) returns-2)

@@ -5,40 +5,37 @@ use Rattle.hour.specs.Check.{deficiency_rule_at, deficiencies_rule}
 use Rattle.hour.proofs.deficiencies.Statement.{statement}
 use Rattle.hour.proofs.deficiencies.Tie as tie
 
-abbrev invariant-loop : tie.invariant-loop
-invariant-loop start body at i₀ i =
+abbrev invariant-loop-i : tie.invariant-loop-i
+invariant-loop-i start body at i₀ i =
     (i ≤ 6) × (deficiencies_rule start body at ≡ scan (deficiency_rule_at start body at) i (6 - i))
 
-abbrev decreases-loop : tie.decreases-loop
-decreases-loop start body at i₀ i = 6 - i
+abbrev decreases-loop-i : tie.decreases-loop-i
+decreases-loop-i start body at i₀ i = 6 - i
 
-turn : (c : tie.After-range invariant-loop decreases-loop) →
-    let s = c.before.before.before.before.before.args in
-    c.range.result ≡ deficiency_rule_at s.start s.body.now s.at c.before.before.before.loop.i
+turn : (c : tie.After-range-v invariant-loop-i decreases-loop-i) →
+    let s = c.args in
+    c.range-v.result ≡ deficiency_rule_at s.start s.body.now s.at c.loop-i.i
 unfolding deficiency_rule_at
-turn c = c.range.ensures ∙ rw c.before.word.ensures
+turn c = c.range-v.ensures ∙ rw c.word.ensures
 
-loop-holds : tie.Need-loop-init invariant-loop decreases-loop
+loop-holds : tie.Need-loop-i-init invariant-loop-i decreases-loop-i
 unfolding deficiencies_rule
 loop-holds c = (omega arith, refl)
 
-returns : tie.Need-returns invariant-loop decreases-loop
+returns : tie.Need-returns-then-number-ne0 invariant-loop-i decreases-loop-i
 returns c =
-    let i = c.before.before.before.before in
-    loop_stop _ _ _ _ _ _ i.before.loop.invariant.1 i.loop-test.true (turn c.before.before) c.before.number.ensures c.if1.true
+    loop_stop _ _ _ _ _ _ c.loop-i.invariant.1 c.loop-i-test.true (turn c.before.before) c.number.ensures c.if-number-ne0.true
 
-loop-again : tie.Need-loop-preserved invariant-loop decreases-loop
-loop-again c =
-    let i = c.before.before.before.before in (
-      omega arith,
-      loop_next _ _ _ _ _ _ i.before.loop.invariant.1 i.loop-test.true (turn c.before.before) c.before.number.ensures
-          c.if1.false,
-    )
+loop-again : tie.Need-loop-i-preserved invariant-loop-i decreases-loop-i
+loop-again c = (
+  omega arith,
+  loop_next _ _ _ _ _ _ c.loop-i.invariant.1 c.loop-i-test.true (turn c.before.before) c.number.ensures
+      c.if-number-ne0.false,
+)
 
-returns-2 : tie.Need-returns-2 invariant-loop decreases-loop
+returns-2 : tie.Need-returns invariant-loop-i decreases-loop-i
 returns-2 c = search loop_done
 
-pub deficiencies-spec : {M : Type 1} → statement M
-deficiencies-spec =
-    tie.close (tie.spec invariant-loop decreases-loop loop-holds (λ c. search rules) (λ c. search rules) (λ c. search rules) (λ c κs. search rules)
-    (λ c κs. search rules) (λ c κs. search rules) returns (λ c. search rules) (λ c. search rules) loop-again returns-2)
+pub deficiencies_spec : {M : Type 1} → statement M
+deficiencies_spec =
+    tie.close (tie.spec invariant-loop-i decreases-loop-i loop-holds (λ c. search rules) (λ c. search rules) (λ c. search rules) (λ c κs. search rules) (λ c κs. search rules) (λ c κs. search rules) returns (λ c. search rules) (λ c. search rules) loop-again returns-2)

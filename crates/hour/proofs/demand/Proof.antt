@@ -3,5 +3,6 @@ use Rattle.verdict.proofs.Tests.{tests}
 use Rattle.hour.proofs.demand.Statement.{statement}
 use Rattle.hour.proofs.demand.Tie as tie
 
-pub demand-spec : {M : Type 1} → statement M
-demand-spec = tie.close (tie.spec (λ c. search tests) (λ c. search rules) (λ c. search tests) (λ c. search tests))
+pub demand_spec : {M : Type 1} → statement M
+demand_spec =
+    tie.close (tie.spec (λ c. search tests) (λ c. search rules) (λ c. search tests) (λ c. search tests))

@@ -12,50 +12,47 @@ use Rattle.hour.proofs.Rules.{demand_kept}
 use Rattle.hour.proofs.demands.Statement.{statement}
 use Rattle.hour.proofs.demands.Tie as tie
 
-abbrev invariant-loop : tie.invariant-loop
-invariant-loop start body from count running₀ i₀ running i =
+abbrev invariant-loop-i : tie.invariant-loop-i
+invariant-loop-i start body from count running₀ i₀ running i =
     (i ≤ count) × (running ≡ total (words_from body from i)) × (running ≤ most_demand)
     × (demands_rule start body from count ≡ scan (demand_rule_at start body from) i (count - i))
 
-abbrev decreases-loop : tie.decreases-loop
-decreases-loop start body from count running₀ i₀ running i = count - i
+abbrev decreases-loop-i : tie.decreases-loop-i
+decreases-loop-i start body from count running₀ i₀ running i = count - i
 
-turn : (c : tie.After-demand invariant-loop decreases-loop) →
-    let s = c.before.before.before.before.before.args in
-    c.demand.result ≡ demand_rule_at s.start s.body.now s.from c.before.before.before.loop.i
+turn : (c : tie.After-demand-v invariant-loop-i decreases-loop-i) →
+    let s = c.args in
+    c.demand-v.result ≡ demand_rule_at s.start s.body.now s.from c.loop-i.i
 unfolding demand_rule_at
-turn c = c.demand.ensures ∙ rw (c.before.before.before.loop.invariant.1, c.before.word.ensures)
+turn c = c.demand-v.ensures ∙ rw (c.loop-i.invariant.1, c.word-next.ensures)
 
-small : (c : tie.Else1 invariant-loop decreases-loop) → c.before.before.before.before.before.loop.running + c.before.before.before.word.result ≤ most_demand
-small c = (demand_kept _ _ _ (ap number_of (sym c.before.before.demand.ensures) ∙ sym c.before.number.ensures ∙ c.if1.false)).1
+small : (c : tie.Else-number-ne0 invariant-loop-i decreases-loop-i) → c.loop-i.running + c.word-next.result ≤ most_demand
+small c = (demand_kept _ _ _ (ap number_of (sym c.demand-v.ensures) ∙ sym c.number.ensures ∙ c.if-number-ne0.false)).1
 
-loop-holds : tie.Need-loop-init invariant-loop decreases-loop
+loop-holds : tie.Need-loop-i-init invariant-loop-i decreases-loop-i
 unfolding demands_rule
 loop-holds c = (omega arith, sym (total_none _ _), omega arith, simp sub-zero)
 
-returns : tie.Need-returns invariant-loop decreases-loop
+returns : tie.Need-returns-then-number-ne0 invariant-loop-i decreases-loop-i
 returns c =
-    let i = c.before.before.before.before in
-    loop_stop _ _ _ _ _ _ i.before.loop.invariant.3 i.loop-test.true (turn c.before.before) c.before.number.ensures c.if1.true
+    loop_stop _ _ _ _ _ _ c.loop-i.invariant.3 c.loop-i-test.true (turn c.before.before) c.number.ensures c.if-number-ne0.true
 
-add-running : tie.Need-overflow-add-running invariant-loop decreases-loop
+add-running : tie.Need-overflow_add-running invariant-loop-i decreases-loop-i
 add-running c = omega (arith, small c)
 
-loop-again : tie.Need-loop-preserved invariant-loop decreases-loop
-loop-again c =
-    let i = c.before.before.before.before in (
-      omega arith,
-      ap₂ ◌+◌ i.before.loop.invariant.1 c.before.before.before.word.ensures
-          ∙ sym (total_more _ _ _),
-      small c,
-      loop_next _ _ _ _ _ _ i.before.loop.invariant.3 i.loop-test.true (turn c.before.before)
-          c.before.number.ensures c.if1.false,
-    )
+loop-again : tie.Need-loop-i-preserved invariant-loop-i decreases-loop-i
+loop-again c = (
+  omega arith,
+  ap₂ ◌+◌ c.loop-i.invariant.1 c.word-next.ensures
+      ∙ sym (total_more _ _ _),
+  small c,
+  loop_next _ _ _ _ _ _ c.loop-i.invariant.3 c.loop-i-test.true (turn c.before.before)
+      c.number.ensures c.if-number-ne0.false,
+)
 
-returns-2 : tie.Need-returns-2 invariant-loop decreases-loop
+returns-2 : tie.Need-returns invariant-loop-i decreases-loop-i
 returns-2 c = search loop_done
 
-pub demands-spec : {M : Type 1} → statement M
-demands-spec =
-    tie.close (tie.spec invariant-loop decreases-loop loop-holds (λ c. search rules) (λ c κs. search rules) (λ c. search rules) (λ c. search rules)
-    (λ c κs. search rules) (λ c κs. search rules) returns add-running (λ c. search rules) (λ c. search rules) loop-again returns-2)
+pub demands_spec : {M : Type 1} → statement M
+demands_spec =
+    tie.close (tie.spec invariant-loop-i decreases-loop-i loop-holds (λ c. search rules) (λ c κs. search rules) (λ c. search rules) (λ c. search rules) (λ c κs. search rules) (λ c κs. search rules) returns add-running (λ c. search rules) (λ c. search rules) loop-again returns-2)

@@ -13,45 +13,43 @@ opened : (start : ℕ) (body : List ℕ) (at : ℕ) → numbers_rule start body 
 unfolding numbers_rule
 opened start body at = refl
 
-requirement-is : (c : tie.After-range) →
-    let s = c.before.before.before.before.before.before.args in
+requirement-is : (c : tie.After-range-second) →
+    let s = c.args in
     let b = s.body.now in
-    c.range.result ≡ range_rule (s.start + (s.at + 6)) most_requirement (word_at b (s.at + 6))
-requirement-is c = c.range.ensures ∙ rw c.before.word.ensures
+    c.range-second.result ≡ range_rule (s.start + (s.at + 6)) most_requirement (word_at b (s.at + 6))
+requirement-is c = c.range-second.ensures ∙ rw c.word.ensures
 
-mec-is : (c : tie.After-range2) →
-    let s = c.before.before.before.before.before.before.before.before.before.before.before.args in
+mec-is : (c : tie.After-range) →
+    let s = c.args in
     let b = s.body.now in
-    c.range2.result ≡ range_rule (s.start + (s.at + 7)) most_market_price (nat_abs (signed_of (word_at b (s.at + 7))))
-mec-is c = c.range2.ensures ∙ rw (c.before.magnitude.ensures, c.before.before.word2.ensures)
+    c.range.result ≡ range_rule (s.start + (s.at + 7)) most_market_price (nat_abs (signed_of (word_at b (s.at + 7))))
+mec-is c = c.range.ensures ∙ rw (c.magnitude-mec.ensures, c.word-2.ensures)
 
-past-deficiencies : (c : tie.Else1) →
-    let s = c.before.before.before.before.args in
+past-deficiencies : (c : tie.Else-number-ne0) →
+    let s = c.args in
     let b = s.body.now in
     numbers_rule s.start b s.at
     ≡ (range_rule (s.start + (s.at + 6)) most_requirement (word_at b (s.at + 6))
     or_else range_rule (s.start + (s.at + 7)) most_market_price (nat_abs (signed_of (word_at b (s.at + 7)))))
 past-deficiencies c =
-    let s = c.before.before.before.before.args in
-    seq_next _ _ _ _ _ (opened s.start s.body.now s.at) c.before.before.deficiencies.ensures c.before.number.ensures c.if1.false
+    let s = c.args in
+    seq_next _ _ _ _ _ (opened s.start s.body.now s.at) c.deficiencies-first.ensures c.number.ensures c.if-number-ne0.false
 
-returns : tie.Need-returns
+returns : tie.Need-returns-then-number-ne0
 returns c =
-    let s = c.before.before.before.before.args in
-    seq_stop _ _ _ _ _ (opened s.start s.body.now s.at) c.before.before.deficiencies.ensures c.before.number.ensures c.if1.true
+    let s = c.args in
+    seq_stop _ _ _ _ _ (opened s.start s.body.now s.at) c.deficiencies-first.ensures c.number.ensures c.if-number-ne0.true
 
-returns-2 : tie.Need-returns-2
+returns-2 : tie.Need-returns-then-number-ne0-2
 returns-2 c =
-    seq_stop _ _ _ _ _ (past-deficiencies c.before.before.before.before) (requirement-is c.before.before) c.before.number2.ensures
-    c.if2.true
+    seq_stop _ _ _ _ _ (past-deficiencies c.before.before.before.before) (requirement-is c.before.before) c.number-2.ensures
+    c.if-number-ne0-2.true
 
-returns-3 : tie.Need-returns-3
+returns-3 : tie.Need-returns
 returns-3 c =
     mec-is c ∙ sym (seq_next _ _ _ _ _ (past-deficiencies c.before.before.before.before.before.before.before)
-    (requirement-is c.before.before.before.before.before) c.before.before.before.before.number2.ensures c.before.before.before.if2.false)
+    (requirement-is c.before.before.before.before.before) c.number-2.ensures c.if-number-ne0-2.false)
 
-pub numbers-spec : {M : Type 1} → statement M
-numbers-spec =
-    tie.close (tie.spec (λ c κs. search rules) (λ c κs. search rules) returns (λ c. search rules) (λ c. search rules) (λ c. search rules)
-    (λ c κs. search rules) (λ c κs. search rules) (λ c κs. search rules) returns-2 (λ c. search rules) (λ c κs. search rules) (λ c κs. search rules)
-    (λ c. search rules) (λ c. search rules) (λ c κs. search rules) returns-3)
+pub numbers_spec : {M : Type 1} → statement M
+numbers_spec =
+    tie.close (tie.spec (λ c κs. search rules) (λ c κs. search rules) returns (λ c. search rules) (λ c. search rules) (λ c. search rules) (λ c κs. search rules) (λ c κs. search rules) (λ c κs. search rules) returns-2 (λ c. search rules) (λ c κs. search rules) (λ c κs. search rules) (λ c. search rules) (λ c. search rules) (λ c κs. search rules) returns-3)

@@ -7,25 +7,24 @@ use Rattle.hour.proofs.Gathered.{range_gathered, both_gathered}
 use Rattle.hour.proofs.numbers_gathered.Statement.{statement}
 use Rattle.hour.proofs.numbers_gathered.Tie as tie
 
-requirement-gathered : (c : tie.After-outside) (start : ℕ) →
-    let s = c.before.before.before.before.args in
-    Gathered (range_rule (start + (s.at + 6)) most_requirement (word_at s.body.now (s.at + 6))) c.outside.result
-requirement-gathered c start = rw (← c.before.word.ensures) (range_gathered _ _ c.before.word.result _ c.outside.ensures)
+requirement-gathered : (c : tie.After-outside-second) (start : ℕ) →
+    let s = c.args in
+    Gathered (range_rule (start + (s.at + 6)) most_requirement (word_at s.body.now (s.at + 6))) c.outside-second.result
+requirement-gathered c start = rw (← c.word.ensures) (range_gathered _ _ c.word.result _ c.outside-second.ensures)
 
-mec-gathered : (c : tie.After-outside2) (start : ℕ) →
-    let s = c.before.before.before.before.before.before.before.args in
-    Gathered (range_rule (start + (s.at + 7)) most_market_price (nat_abs (signed_of (word_at s.body.now (s.at + 7))))) c.outside2.result
+mec-gathered : (c : tie.After-outside) (start : ℕ) →
+    let s = c.args in
+    Gathered (range_rule (start + (s.at + 7)) most_market_price (nat_abs (signed_of (word_at s.body.now (s.at + 7))))) c.outside.result
 mec-gathered c start =
-    rw (← c.before.before.word2.ensures, ← c.before.magnitude.ensures)
-    (range_gathered _ _ c.before.magnitude.result _ c.outside2.ensures)
+    rw (← c.word-2.ensures, ← c.magnitude-mec.ensures)
+    (range_gathered _ _ c.magnitude-mec.result _ c.outside.ensures)
 
 returns : tie.Need-returns
 unfolding numbers_rule
 returns c start =
-    both_gathered (c.before.before.before.before.before.deficiencies-gathered.ensures start)
+    both_gathered (c.deficiencies_gathered-first.ensures start)
     (both_gathered (requirement-gathered c.before.before.before start) (mec-gathered c start))
 
-pub numbers-gathered-spec : {M : Type 1} → statement M
-numbers-gathered-spec =
-    tie.close (tie.spec (λ c κs. search rules) (λ c. search rules) (λ c κs. search rules) (λ c κs. search rules) (λ c. search rules)
-    (λ c κs. search rules) (λ c κs. search rules) (λ c κs. search rules) returns)
+pub numbers_gathered_spec : {M : Type 1} → statement M
+numbers_gathered_spec =
+    tie.close (tie.spec (λ c κs. search rules) (λ c. search rules) (λ c κs. search rules) (λ c κs. search rules) (λ c. search rules) (λ c κs. search rules) (λ c κs. search rules) (λ c κs. search rules) returns)

@@ -36,11 +36,12 @@ higher price fits =
 
 returns : tie.Need-returns
 returns c =
-    let price = c.before.before.before.args.price in
-    let up = c.before.before.wrapping-add-u32 in
-    ap₂ bit_and c.before.present.ensures c.outside.ensures
+    let price = c.args.price in
+    let up = c.wrapping_add_u32-higher in
+    ap₂ bit_and c.present.ensures c.outside.ensures
     ∙ either (missing price) (leb up.result (2 * most_market_price))
     ∙ ap (λ t. cond (missing price || t) 0 1) (ap (λ n. leb n (2 * most_market_price)) up.ensures ∙ higher price (omega arith))
 
-pub price-outside-spec : {M : Type 1} → statement M
-price-outside-spec = tie.close (tie.spec (λ c κs. search rules) (λ c κs. search rules) (λ c. search rules) (λ c κs. search rules) returns)
+pub price_outside_spec : {M : Type 1} → statement M
+price_outside_spec =
+    tie.close (tie.spec (λ c κs. search rules) (λ c κs. search rules) (λ c. search rules) (λ c κs. search rules) returns)

@@ -8,5 +8,6 @@ returns : tie.Need-returns
 unfolding edition_one
 returns c = refl
 
-pub edition-one-spec : {M : Type 1} → statement M
-edition-one-spec = tie.close (tie.spec (λ c. record { fits = lit< tt }) (λ c. record { fits = lit< tt }) returns)
+pub edition_one_spec : {M : Type 1} → statement M
+edition_one_spec =
+    tie.close (tie.spec (λ c. record { fits = lit< tt }) (λ c. record { fits = lit< tt }) returns)

@@ -5,7 +5,8 @@ use Rattle.limits.proofs.limits_of.Tie as tie
 
 returns : tie.Need-returns
 unfolding limits_of
-returns c = c.edition-one.ensures
+returns c = c.edition_one.ensures
 
-pub limits-of-spec : {M : Type 1} → statement M
-limits-of-spec = tie.close (tie.spec (λ c κs. search rules) returns)
+pub limits_of_spec : {M : Type 1} → statement M
+limits_of_spec =
+    tie.close (tie.spec (λ c κs. search rules) returns)

@@ -10,20 +10,20 @@ use Rattle.record_words.specs.Words.{place_in}
 use Rattle.record_words.proofs.record_of.Statement.{statement}
 use Rattle.record_words.proofs.record_of.Tie as tie
 
-abbrev invariant-loop : tie.invariant-loop
-invariant-loop words places₀ k₀ places k =
+abbrev invariant-loop-k : tie.invariant-loop-k
+invariant-loop-k words places₀ k₀ places k =
     (k ≤ most_held) × (length places ≡ most_held) × ((j : ℕ) → j < k → place_in words j ≡ get_or places j (place 0 0))
 
-abbrev decreases-loop : tie.decreases-loop
-decreases-loop words places₀ k₀ places k = most_held - k
+abbrev decreases-loop-k : tie.decreases-loop-k
+decreases-loop-k words places₀ k₀ places k = most_held - k
 
-loop-holds : tie.Need-loop-init invariant-loop decreases-loop
+loop-holds : tie.Need-loop-k-init invariant-loop-k decreases-loop-k
 loop-holds c = (omega arith, refl, λ j h. absurd (omega arith))
 
-loop-again : tie.Need-loop-preserved invariant-loop decreases-loop
+loop-again : tie.Need-loop-k-preserved invariant-loop-k decreases-loop-k
 loop-again c =
-    let l = c.before.loop in
-    let words = c.before.before.args.t1 in
+    let l = c.loop-k in
+    let words = c.args.t1 in
     let inside : l.k < length l.places = omega arith in (
       omega arith,
       simp length-set l.invariant.1,
@@ -32,13 +32,11 @@ loop-again c =
           (sym (get_or-set_same l.places l.k _ (place 0 0) inside)),
     )
 
-returns : tie.Need-returns invariant-loop decreases-loop
+returns : tie.Need-returns invariant-loop-k decreases-loop-k
 returns c =
-    let l = c.before.loop in
+    let l = c.loop-k in
     record { last = refl; held = refl; places = λ k h. l.invariant.2 k (omega arith) }
 
-pub record-of-spec : {M : Type 1} → statement M
-record-of-spec =
-    tie.close (tie.spec invariant-loop decreases-loop loop-holds (λ c. omega arith) (λ c. omega arith) (λ c. omega arith) (λ c. omega arith) (λ c. omega arith)
-    (λ c. omega arith) (λ c. omega arith) (λ c. omega arith) (λ c. omega arith) (λ c. omega arith) (λ c. omega arith) (λ c. omega arith) loop-again
-    (λ c. omega arith) (λ c. omega arith) returns)
+pub record_of_spec : {M : Type 1} → statement M
+record_of_spec =
+    tie.close (tie.spec invariant-loop-k decreases-loop-k loop-holds (λ c. omega arith) (λ c. omega arith) (λ c. omega arith) (λ c. omega arith) (λ c. omega arith) (λ c. omega arith) (λ c. omega arith) (λ c. omega arith) (λ c. omega arith) (λ c. omega arith) (λ c. omega arith) (λ c. omega arith) loop-again (λ c. omega arith) (λ c. omega arith) returns)

@@ -10,59 +10,55 @@ use Rattle.recording.proofs.InPlace.{copy_step}
 use Rattle.recording.proofs.copied.Statement.{statement}
 use Rattle.recording.proofs.copied.Tie as tie
 
-abbrev invariant-loop : tie.invariant-loop
-invariant-loop from to places out₀ i₀ out i =
+abbrev invariant-loop-i : tie.invariant-loop-i
+invariant-loop-i from to places out₀ i₀ out i =
     (from ≤ i) × (i ≤ to) × (out ≡ record_of out₀.last (entries out₀ ++ take (i - from) (drop from places)))
 
-abbrev decreases-loop : tie.decreases-loop
-decreases-loop from to places out₀ i₀ out i = to - i
+abbrev decreases-loop-i : tie.decreases-loop-i
+decreases-loop-i from to places out₀ i₀ out i = to - i
 
-loop-holds : tie.Need-loop-init invariant-loop decreases-loop
+loop-holds : tie.Need-loop-i-init invariant-loop-i decreases-loop-i
 loop-holds c =
-    let s = c.before.args in
+    let s = c.args in
     let e : s.from - s.from ≡ 0 = omega arith in
-    (omega arith, omega arith, rw (e, append-nil (entries s.onto)) c.before.requires.3)
+    (omega arith, omega arith, rw (e, append-nil (entries s.onto)) c.requires.3)
 
-full : (c : tie.Start invariant-loop decreases-loop) → length c.args.given.places ≡ most_held
+full : (c : tie.Start invariant-loop-i decreases-loop-i) → length c.args.given.places ≡ most_held
 full c = search length_mapped
 
 -- the list that is copied onto is at most as long as the record says
-onto-most : (c : tie.Start invariant-loop decreases-loop) → length (entries c.args.onto) ≤ c.args.onto.held
+onto-most : (c : tie.Start invariant-loop-i decreases-loop-i) → length (entries c.args.onto) ≤ c.args.onto.held
 onto-most c = omega (arith, length-take c.args.onto.held c.args.onto.places)
 
-push-requires : tie.Need-push-requires invariant-loop decreases-loop
+push-requires : tie.Need-push-out-requires invariant-loop-i decreases-loop-i
 push-requires c κs =
-    let s = c.before.before.before.before in
-    let l = c.before.before.loop in
-    let part = take (l.i - s.args.from) (drop s.args.from s.args.given.places) in
+    let l = c.loop-i in
+    let part = take (l.i - c.args.from) (drop c.args.from c.args.given.places) in
     omega (
       arith,
       ap (λ r. r.held) l.invariant.2,
-      length-append (entries s.args.onto) part,
-      onto-most s,
-      length-take (l.i - s.args.from)
-          (drop s.args.from s.args.given.places),
+      length-append (entries c.args.onto) part,
+      onto-most c.before.before.before.before,
+      length-take (l.i - c.args.from)
+          (drop c.args.from c.args.given.places),
     )
 
-loop-again : tie.Need-loop-preserved invariant-loop decreases-loop
+loop-again : tie.Need-loop-i-preserved invariant-loop-i decreases-loop-i
 loop-again c =
-    let s = c.before.before.before.before.before in
-    let l = c.before.before.before.loop in (
+    let l = c.loop-i in (
       omega arith,
       omega arith,
-      copy_step s.args.onto.last s.args.from l.i (entries s.args.onto) s.args.given.places (place 0 0) (omega arith)
-          (omega (arith, full s))
-          l.out c.push.result (omega (arith, onto-most s)) l.invariant.2 c.push.ensures,
+      copy_step c.args.onto.last c.args.from l.i (entries c.args.onto) c.args.given.places (place 0 0) (omega arith)
+          (omega (arith, full c.before.before.before.before.before))
+          l.out c.push-out.result (omega (arith, onto-most c.before.before.before.before.before)) l.invariant.2 c.push-out.ensures,
     )
 
-returns : tie.Need-returns invariant-loop decreases-loop
+returns : tie.Need-returns invariant-loop-i decreases-loop-i
 returns c =
-    let s = c.before.before.before in
-    let l = c.before.loop in
-    let e : l.i ≡ s.args.to = omega arith in
+    let l = c.loop-i in
+    let e : l.i ≡ c.args.to = omega arith in
     rw (← e) l.invariant.2
 
-pub copied-spec : {M : Type 1} → statement M
-copied-spec =
-    tie.close (tie.spec invariant-loop decreases-loop loop-holds (λ c. omega arith) (λ c. omega arith) push-requires (λ c. omega arith) (λ c. omega arith)
-    loop-again returns)
+pub copied_spec : {M : Type 1} → statement M
+copied_spec =
+    tie.close (tie.spec invariant-loop-i decreases-loop-i loop-holds (λ c. omega arith) (λ c. omega arith) push-requires (λ c. omega arith) (λ c. omega arith) loop-again returns)

@@ -10,19 +10,20 @@ use Rattle.surcharge.proofs.Sizes.{at_market_small}
 use Rattle.surcharge.proofs.credit.Statement.{statement}
 use Rattle.surcharge.proofs.credit.Tie as tie
 
-over-400000-requires : tie.Need-over-400000-requires
+over-400000-requires : tie.Need-over_400000-requires
 over-400000-requires c κs =
     let s = c.before.before in
-    rw c.at-market-price.ensures
+    rw c.at_market_price.ensures
     (within w64 _ (omega (arith, at_market_small 4 s.args.most.0 s.args.price.0 (pos 4) s.requires.0 s.requires.1 (omega arith))))
 
-returns : tie.Need-returns
+returns : tie.Need-returns-then-tier-eq0
 unfolding credit_of
-returns c = c.over-400000.ensures ∙ ap (λ z. z *ℤ pos 4) c.before.at-market-price.ensures ∙ simp (eq-eqb _ _ c.before.before.if1.true)
+returns c = c.over_400000.ensures ∙ ap (λ z. z *ℤ pos 4) c.before.at_market_price.ensures ∙ simp (eq-eqb _ _ c.before.before.if-tier-eq0.true)
 
-returns-2 : tie.Need-returns-2
+returns-2 : tie.Need-returns
 unfolding credit_of
-returns-2 c = simp (ne_eqb _ _ c.if1.false)
+returns-2 c = simp (ne_eqb _ _ c.if-tier-eq0.false)
 
-pub credit-spec : {M : Type 1} → statement M
-credit-spec = tie.close (tie.spec (λ c κs. search rules) over-400000-requires returns returns-2)
+pub credit_spec : {M : Type 1} → statement M
+credit_spec =
+    tie.close (tie.spec (λ c κs. search rules) over-400000-requires returns returns-2)

@@ -15,8 +15,9 @@ same tier most e f = rw (e, f)
 returns : tie.Need-returns
 unfolding day_of
 returns c =
-    let e = c.before.surcharge.ensures in
-    same _ _ e (c.surcharge-in-cents.ensures ∙ ap (λ s. surcharge_in_cents s c.before.before.args.tier) e)
+    let e = c.before.surcharge-surcharge.ensures in
+    same _ _ e (c.surcharge_in_cents-shown.ensures ∙ ap (λ s. surcharge_in_cents s c.before.before.args.tier) e)
 
-pub day-of-spec : {M : Type 1} → statement M
-day-of-spec = tie.close (tie.spec (λ c κs. search rules) (λ c κs. search rules) returns)
+pub day_of_spec : {M : Type 1} → statement M
+day_of_spec =
+    tie.close (tie.spec (λ c κs. search rules) (λ c κs. search rules) returns)

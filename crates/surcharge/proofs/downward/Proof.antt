@@ -7,15 +7,16 @@ use Rattle.surcharge.proofs.Rounded.{rounded_once}
 use Rattle.surcharge.proofs.downward.Statement.{statement}
 use Rattle.surcharge.proofs.downward.Tie as tie
 
-returns : tie.Need-returns
+returns : tie.Need-returns-then-quantity-le-DOWNWARD_FLOOR
 unfolding downward_of
-returns c = simp (le-leb _ _ c.if1.true)
+returns c = simp (le-leb _ _ c.if-quantity-le-DOWNWARD_FLOOR.true)
 
-returns-2 : tie.Need-returns-2
+returns-2 : tie.Need-returns
 unfolding downward_of
 returns-2 c =
-    rounded_once at_most_zero _ c.rounded.ensures c.before.at-most-zero.ensures c.before.before.at-market-price.ensures
-    ∙ simp (lt-leb _ _ c.before.before.before.if1.false)
+    rounded_once at_most_zero _ c.rounded.ensures c.before.at_most_zero.ensures c.before.before.at_market_price.ensures
+    ∙ simp (lt-leb _ _ c.before.before.before.if-quantity-le-DOWNWARD_FLOOR.false)
 
-pub downward-spec : {M : Type 1} → statement M
-downward-spec = tie.close (tie.spec returns (λ c κs. search rules) (λ c κs. search rules) (λ c κs. search rules) returns-2)
+pub downward_spec : {M : Type 1} → statement M
+downward_spec =
+    tie.close (tie.spec returns (λ c κs. search rules) (λ c κs. search rules) (λ c κs. search rules) returns-2)

@@ -5,21 +5,22 @@ use mir.ValLaws.{to_z-of_z}
 use Rattle.surcharge.proofs.greater_price.Statement.{statement}
 use Rattle.surcharge.proofs.greater_price.Tie as tie
 
-returns : tie.Need-returns
+returns : tie.Need-returns-then-a-b
 returns c =
     let s = c.before.before.before.before.before.args in
     let f : SFits w32 s.a.0 = search rules in
     let g : SFits w32 s.b.0 = search rules in
-    let t = simp (to_z-of_z w32 _ f, to_z-of_z w32 _ g) at c.if1.true in
+    let t = simp (to_z-of_z w32 _ f, to_z-of_z w32 _ g) at c.if-a-b.true in
     simp t
 
-returns-2 : tie.Need-returns-2
+returns-2 : tie.Need-returns
 returns-2 c =
     let s = c.before.before.before.before.before.args in
     let f : SFits w32 s.a.0 = search rules in
     let g : SFits w32 s.b.0 = search rules in
-    let t = simp (to_z-of_z w32 _ f, to_z-of_z w32 _ g) at c.if1.false in
+    let t = simp (to_z-of_z w32 _ f, to_z-of_z w32 _ g) at c.if-a-b.false in
     simp t
 
-pub greater-price-spec : {M : Type 1} → statement M
-greater-price-spec = tie.close (tie.spec returns returns-2)
+pub greater_price_spec : {M : Type 1} → statement M
+greater_price_spec =
+    tie.close (tie.spec returns returns-2)

@@ -13,15 +13,15 @@ use Rattle.surcharge.proofs.off_peak.Statement.{statement}
 use Rattle.surcharge.proofs.off_peak.Tie as tie
 
 -- U × price × m × (1 + d/100)
-value : (c : tie.After-scaled-multiplier) →
+value : (c : tie.After-scaled_multiplier) →
     let s = c.before.before.before.args in
-    c.before.at-market-price.result.0 *ℤ pos c.scaled-multiplier.result
+    c.before.at_market_price.result.0 *ℤ pos c.scaled_multiplier.result
     ≡ (pos s.upward.0 *ℤ s.price.0) *ℤ pos (scaled_multiplier s.terms s.tier)
-value c = ap₂ (λ z n. z *ℤ pos n) c.before.at-market-price.ensures c.scaled-multiplier.ensures
+value c = ap₂ (λ z n. z *ℤ pos n) c.before.at_market_price.ensures c.scaled_multiplier.ensures
 
-returns : tie.Need-returns
+returns : tie.Need-returns-then-tier-le1
 unfolding off_peak_of
-returns c = simp (le-leb _ _ c.if1.true)
+returns c = simp (le-leb _ _ c.if-tier-le1.true)
 
 scaled-requires : tie.Need-scaled-requires
 scaled-requires c κs =
@@ -30,12 +30,12 @@ scaled-requires c κs =
     let k = s.requires.1 in
     rw (value c) (within w64 _ (omega (arith, scaled_small a.terms s.requires.0 a.upward.0 k.0 a.tier a.price.0 k.1)))
 
-returns-2 : tie.Need-returns-2
+returns-2 : tie.Need-returns
 unfolding off_peak_of
 returns-2 c =
-    rounded_once at_least_zero _ c.rounded.ensures c.before.at-least-zero.ensures (c.before.before.scaled.ensures ∙ value c.before.before.before)
-    ∙ simp (lt-leb _ _ c.before.before.before.before.before.if1.false)
+    rounded_once at_least_zero _ c.rounded.ensures c.before.at_least_zero.ensures (c.before.before.scaled.ensures ∙ value c.before.before.before)
+    ∙ simp (lt-leb _ _ c.before.before.before.before.before.if-tier-le1.false)
 
-pub off-peak-spec : {M : Type 1} → statement M
-off-peak-spec =
+pub off_peak_spec : {M : Type 1} → statement M
+off_peak_spec =
     tie.close (tie.spec returns (λ c κs. search rules) (λ c κs. search rules) scaled-requires (λ c κs. search rules) (λ c κs. search rules) returns-2)

@@ -4,8 +4,6 @@ use Rattle.verdict.proofs.Tests.{tests}
 use Rattle.surcharge.proofs.price_needed.Statement.{statement}
 use Rattle.surcharge.proofs.price_needed.Tie as tie
 
-pub price-needed-spec : {M : Type 1} → statement M
-price-needed-spec =
-    tie.close (tie.spec (λ c. search tests) (λ c. search (tests, not-true c.before.before.args.peak c.if2.true, rules))
-    (λ c. search (tests, not-false c.before.before.before.args.peak c.before.if2.false, rules))
-    (λ c. search (tests, not-false c.before.before.before.args.peak c.before.if2.false, rules)))
+pub price_needed_spec : {M : Type 1} → statement M
+price_needed_spec =
+    tie.close (tie.spec (λ c. search tests) (λ c. search (tests, not-true c.before.before.args.peak c.if-not-peak.true, rules)) (λ c. search (tests, not-false c.before.before.before.args.peak c.before.if-not-peak.false, rules)) (λ c. search (tests, not-false c.before.before.before.args.peak c.before.if-not-peak.false, rules)))

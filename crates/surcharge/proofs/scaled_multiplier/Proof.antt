@@ -7,12 +7,12 @@ use Rattle.surcharge.proofs.Sizes.{multiplier_small}
 use Rattle.surcharge.proofs.scaled_multiplier.Statement.{statement}
 use Rattle.surcharge.proofs.scaled_multiplier.Tie as tie
 
-value : (c : tie.After-quarters-of) →
+value : (c : tie.After-quarters_of) →
     let s = c.before.args in
-    c.quarters-of.result * (100 + s.terms.days) ≡ scaled_multiplier s.terms s.tier
-value c = ap (λ m. m * (100 + c.before.args.terms.days)) c.quarters-of.ensures
+    c.quarters_of.result * (100 + s.terms.days) ≡ scaled_multiplier s.terms s.tier
+value c = ap (λ m. m * (100 + c.before.args.terms.days)) c.quarters_of.ensures
 
-mul-result : tie.Need-overflow-mul-result
+mul-result : tie.Need-overflow_mul-result
 mul-result c =
     let s = c.before.before in
     rw (value c.before) (omega (arith, multiplier_small s.args.terms s.requires s.args.tier))
@@ -20,5 +20,6 @@ mul-result c =
 returns : tie.Need-returns
 returns c = value c.before
 
-pub scaled-multiplier-spec : {M : Type 1} → statement M
-scaled-multiplier-spec = tie.close (tie.spec (λ c κs. search rules) (λ c. search rules) mul-result returns)
+pub scaled_multiplier_spec : {M : Type 1} → statement M
+scaled_multiplier_spec =
+    tie.close (tie.spec (λ c κs. search rules) (λ c. search rules) mul-result returns)

@@ -11,11 +11,11 @@ use Rattle.surcharge.proofs.surcharge.Statement.{statement}
 use Rattle.surcharge.proofs.surcharge.Tie as tie
 
 -- M × P × m × (1 + d/100)
-value : (c : tie.After-scaled-multiplier) →
+value : (c : tie.After-scaled_multiplier) →
     let s = c.before.before.args in
-    c.before.at-hub-price.result.0 *ℤ pos c.scaled-multiplier.result
+    c.before.at_hub_price.result.0 *ℤ pos c.scaled_multiplier.result
     ≡ (pos s.most.0 *ℤ s.hub.0) *ℤ pos (scaled_multiplier s.terms s.tier)
-value c = ap₂ (λ z m. z *ℤ pos m) c.before.at-hub-price.ensures c.scaled-multiplier.ensures
+value c = ap₂ (λ z m. z *ℤ pos m) c.before.at_hub_price.ensures c.scaled_multiplier.ensures
 
 scaled-requires : tie.Need-scaled-requires
 scaled-requires c κs =
@@ -27,7 +27,8 @@ scaled-requires c κs =
 
 returns : tie.Need-returns
 unfolding surcharge_of
-returns c = c.at-least-zero.ensures ∙ ap at_least_zero (c.before.scaled.ensures ∙ value c.before.before)
+returns c = c.at_least_zero.ensures ∙ ap at_least_zero (c.before.scaled.ensures ∙ value c.before.before)
 
-pub surcharge-spec : {M : Type 1} → statement M
-surcharge-spec = tie.close (tie.spec (λ c κs. search rules) (λ c κs. search rules) scaled-requires (λ c κs. search rules) returns)
+pub surcharge_spec : {M : Type 1} → statement M
+surcharge_spec =
+    tie.close (tie.spec (λ c κs. search rules) (λ c κs. search rules) scaled-requires (λ c κs. search rules) returns)

@@ -8,15 +8,16 @@ use Rattle.exact.proofs.Machine.{got}
 use Rattle.units.proofs.CentsOver100000.per.Statement.{statement}
 use Rattle.units.proofs.CentsOver100000.per.Tie as tie
 
-rounded : (c : tie.After-round-div) → to_z w64 (of_z w64 c.round-div.result)
+rounded : (c : tie.After-round_div) → to_z w64 (of_z w64 c.round_div.result)
     ≡ round_div c.before.before.args.self.0 c.before.before.args.quantity.0
-rounded c = got w64 c.round-div.type-inv (c.round-div.ensures ∙ search rules)
+rounded c = got w64 c.round_div.type_inv (c.round_div.ensures ∙ search rules)
 
-cast-t4 : tie.Need-overflow-cast-t4
+cast-t4 : tie.Need-overflow_cast-result
 cast-t4 c = rw (rounded c) c.before.before.requires.1
 
 returns : tie.Need-returns
 returns c = rw (rounded c) (to_z-of_z w32 _ c.before.before.requires.1)
 
-pub per-spec : {M : Type 1} → statement M
-per-spec = tie.close (tie.spec (λ c κs. search rules) cast-t4 returns)
+pub per_spec : {M : Type 1} → statement M
+per_spec =
+    tie.close (tie.spec (λ c κs. search rules) cast-t4 returns)

@@ -6,7 +6,8 @@ use Rattle.units.proofs.CentsOver40000000.rounded.Statement.{statement}
 use Rattle.units.proofs.CentsOver40000000.rounded.Tie as tie
 
 returns : tie.Need-returns
-returns c = got w64 c.round-div.type-inv (c.round-div.ensures ∙ search rules)
+returns c = got w64 c.round_div.type_inv (c.round_div.ensures ∙ search rules)
 
-pub rounded-spec : {M : Type 1} → statement M
-rounded-spec = tie.close (tie.spec (λ c κs. search rules) returns)
+pub rounded_spec : {M : Type 1} → statement M
+rounded_spec =
+    tie.close (tie.spec (λ c κs. search rules) returns)

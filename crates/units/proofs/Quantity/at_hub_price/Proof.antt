@@ -6,7 +6,8 @@ use Rattle.units.proofs.Quantity.at_hub_price.Statement.{statement}
 use Rattle.units.proofs.Quantity.at_hub_price.Tie as tie
 
 returns : tie.Need-returns
-returns c = got w64 c.product.type-inv (c.product.ensures ∙ search rules)
+returns c = got w64 c.product.type_inv (c.product.ensures ∙ search rules)
 
-pub at-hub-price-spec : {M : Type 1} → statement M
-at-hub-price-spec = tie.close (tie.spec (λ c κs. search rules) returns)
+pub at_hub_price_spec : {M : Type 1} → statement M
+at_hub_price_spec =
+    tie.close (tie.spec (λ c κs. search rules) returns)

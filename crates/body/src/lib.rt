@@ -1,5 +1,6 @@
 // The check of one area's body: its head, its coordinators and its 24 hours, word by word, the first that breaks its rule, and whether the area is plain.
 #![tactic(auto)]
+
 ghost use Rattle.std.specs.Prelude.{false, ◌&&◌, ◌≡◌, ◌+◌, ◌*◌, ◌/◌, ◌≤◌, ◌<◌, ◌^◌, eqb, length};
 ghost use Rattle.verdict.specs.Verdict.{number_of};
 ghost use Rattle.limits.specs.Ranges.{day_hours, proved_points};

@@ -1,5 +1,6 @@
 // The head and the contents of a book rewritten in lent room: an entry more, an entry less.
 #![tactic(auto)]
+
 ghost use Rattle.std.specs.Prelude.{◌≡◌, ℕ, ◌+◌, ◌*◌, ◌-◌, ◌≤◌, ◌<◌, length};
 ghost use Rattle.moving.specs.Written.{written};
 ghost use Rattle.book.specs.Days.{entry_bytes};

@@ -1,6 +1,7 @@
 // An hour at a glance: where no price is missing and no number is near its bound, its intervals are judged by their words joined bit by bit, which is about
 // half the work of gathering them.
 #![tactic(auto)]
+
 ghost use Rattle.std.specs.Prelude.{◌≡◌, ◌+◌, ◌*◌, ◌<◌, ◌≤◌, true, not, ◌&&◌, length, ◌==◌, nat_lt};
 ghost use Rattle.hour.specs.Layout.{hour_words};
 ghost use Rattle.hour_glance.specs.Joined.{JoinedFrom, near, small};

@@ -1,5 +1,6 @@
 // Moves a day into a month book in lent room, and out of it: its file and its entry.
 #![tactic(auto)]
+
 ghost use Rattle.std.specs.Prelude.{◌≡◌, ◌++◌, ◌+◌, ◌*◌, ◌-◌, ◌/◌, ◌≤◌, ◌<◌, ◌^◌, length, replicate};
 ghost use Rattle.moving.specs.Written.{written, part};
 ghost use Rattle.book.specs.Days.{book_of};

@@ -1,5 +1,6 @@
 // The place of a date among the entries of a month book.
 #![tactic(auto)]
+
 ghost use Rattle.std.specs.Prelude.{◌≡◌, ◌+◌, ◌*◌, ◌-◌, ◌/◌, ◌≤◌, ◌<◌, ◌^◌, length};
 ghost use Rattle.book.specs.Read.{count_of};
 ghost use Rattle.book.specs.Sound.{Sound};

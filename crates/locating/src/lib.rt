@@ -1,5 +1,6 @@
 // Where a word of a day file stands: which area and hour it belongs to, and which number it is. So the place of a refusal is told.
 #![tactic(auto)]
+
 ghost use Rattle.std.specs.Prelude.{◌≡◌, ◌&&◌, ◌+◌, ◌/◌, ◌<◌, ◌≤◌, leb, ltb};
 ghost use Rattle.locating.specs.Locating.{word_within, start_within, head_field, entry_field, body_field, number_field, interval_field, hour_field, holder_from, in_body};
 ghost use Rattle.locating.specs.Locating.{place_of};

@@ -7,5 +7,6 @@ use Rattle.body.proofs.first_hour.Tie as tie
 returns : tie.Need-returns
 returns c = sym (first_hour c.args.load c.args.count)
 
-pub first-hour-spec : {M : Type 1} → statement M
-first-hour-spec = tie.close (tie.spec (λ c. search rules) returns)
+pub first_hour_spec : {M : Type 1} → statement M
+first_hour_spec =
+    tie.close (tie.spec (λ c. search rules) returns)

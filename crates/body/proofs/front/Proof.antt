@@ -16,32 +16,31 @@ unfolding front_rule
 opened start body points ciso = refl
 
 count_is : (c : tie.After-count) →
-    let s = c.before.before.before.before.before.before.before.before.before.args in
+    let s = c.args in
     let b = s.body.now in
     c.count.result ≡ coordinator_count_rule s.start (length b / 4) (most_of_kind (word_at b 0)) (word_at b 5) (word_at b 6)
 count_is c =
     c.count.ensures ∙ rw (
-      c.before.word3.ensures,
-      c.before.before.word2.ensures,
-      c.before.before.before.most-of-kind.ensures,
-      c.before.before.before.before.word.ensures,
+      c.word-k.ensures,
+      c.word-load.ensures,
+      c.most_of_kind-most.ensures,
+      c.word.ensures,
     )
 
-returns : tie.Need-returns
+returns : tie.Need-returns-then-number-ne0
 returns c =
-    let s = c.before.before.before.before.args in
-    seq_stop _ _ _ _ _ (opened s.start s.body.now s.points s.ciso) c.before.before.head.ensures c.before.number.ensures
-    c.if1.true
+    let s = c.args in
+    seq_stop _ _ _ _ _ (opened s.start s.body.now s.points s.ciso) c.head-first.ensures c.number.ensures
+    c.if-number-ne0.true
 
-returns-2 : tie.Need-returns-2
+returns-2 : tie.Need-returns
 returns-2 c =
-    let s = c.before.before.before.before.before.before.before.before.before.args in
+    let s = c.args in
     let b = s.body.now in
     count_is c ∙ sym (seq_next _ _ _ _ _ (opened s.start b s.points s.ciso)
-    c.before.before.before.before.before.before.before.head.ensures c.before.before.before.before.before.before.number.ensures
-    c.before.before.before.before.before.if1.false)
+    c.head-first.ensures c.number.ensures
+    c.if-number-ne0.false)
 
-pub front-spec : {M : Type 1} → statement M
-front-spec =
-    tie.close (tie.spec (λ c κs. search rules) (λ c κs. search rules) returns (λ c κs. search rules) (λ c κs. search rules) (λ c κs. search rules)
-    (λ c. search rules) (λ c κs. search rules) (λ c. search rules) (λ c κs. search rules) returns-2)
+pub front_spec : {M : Type 1} → statement M
+front_spec =
+    tie.close (tie.spec (λ c κs. search rules) (λ c κs. search rules) returns (λ c κs. search rules) (λ c κs. search rules) (λ c κs. search rules) (λ c. search rules) (λ c κs. search rules) (λ c. search rules) (λ c κs. search rules) returns-2)

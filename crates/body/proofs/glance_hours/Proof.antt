@@ -14,57 +14,53 @@ use Rattle.body.proofs.HourPlaces.{hour_room}
 use Rattle.body.proofs.glance_hours.Statement.{statement}
 use Rattle.body.proofs.glance_hours.Tie as tie
 
-abbrev invariant-loop : tie.invariant-loop
-invariant-loop kind body load count at₀ h₀ at h = Behind body kind load count h at
+abbrev invariant-loop-h : tie.invariant-loop-h
+invariant-loop-h kind body load count at₀ h₀ at h = Behind body kind load count h at
 
-abbrev decreases-loop : tie.decreases-loop
-decreases-loop kind body load count at₀ h₀ at h = day_hours - h
+abbrev decreases-loop-h : tie.decreases-loop-h
+decreases-loop-h kind body load count at₀ h₀ at h = day_hours - h
 
-room : (c : tie.In-loop invariant-loop decreases-loop) →
-    let s = c.before.before.before.before.args in
-    4 * (c.before.loop.at + hour_words s.load s.count) ≤ length s.body.now
+room : (c : tie.In-loop-h invariant-loop-h decreases-loop-h) →
+    let s = c.args in
+    4 * (c.loop-h.at + hour_words s.load s.count) ≤ length s.body.now
 room c =
-    let s = c.before.before.before.before.args in
-    let l = c.before.loop in
-    omega (arith, l.invariant.here, hour_room s.load s.count l.h c.loop-test.true)
+    let s = c.args in
+    let l = c.loop-h in
+    omega (arith, l.invariant.here, hour_room s.load s.count l.h c.loop-h-test.true)
 
 -- the loop's hour, where a glance tells enough
-told : (c : tie.Else1 invariant-loop decreases-loop) →
-    let l = c.before.before.before in
-    let s = l.before.before.before.args in
-    AcceptedPlain s.body.now s.kind s.load s.count (hour_start s.load s.count l.loop.h)
+told : (c : tie.Else-not-glance invariant-loop-h decreases-loop-h) →
+    let s = c.args in
+    AcceptedPlain s.body.now s.kind s.load s.count (hour_start s.load s.count c.loop-h.h)
 told c =
-    let g = c.before.glance in
-    rw c.before.before.before.loop.invariant.here at (g.ensures (not-false g.result c.if1.false))
+    let g = c.glance in
+    rw c.loop-h.invariant.here at (g.ensures c.if-not-glance.false)
 
-loop-holds : tie.Need-loop-init invariant-loop decreases-loop
-loop-holds c = record { within = omega arith; here = c.first-hour.ensures; each = λ h p. absurd (omega arith) }
+loop-holds : tie.Need-loop-h-init invariant-loop-h decreases-loop-h
+loop-holds c = record { within = omega arith; here = c.first_hour-at.ensures; each = λ h p. absurd (omega arith) }
 
-glance-requires : tie.Need-glance-requires invariant-loop decreases-loop
+glance-requires : tie.Need-glance-requires invariant-loop-h decreases-loop-h
 glance-requires c κs = omega (arith, room c)
 
-returns : tie.Need-returns invariant-loop decreases-loop
-returns c = c.before.before.before.loop.invariant
+returns : tie.Need-returns-then-not-glance invariant-loop-h decreases-loop-h
+returns c = c.loop-h.invariant
 
-next-hour-requires : tie.Need-next-hour-requires invariant-loop decreases-loop
-next-hour-requires c κs = let i = c.before.before in (i.before.loop.invariant.here, omega (arith, room i))
+next-hour-requires : tie.Need-next_hour-at-requires invariant-loop-h decreases-loop-h
+next-hour-requires c κs = (c.loop-h.invariant.here, omega (arith, room c.before.before))
 
-loop-again : tie.Need-loop-preserved invariant-loop decreases-loop
+loop-again : tie.Need-loop-h-preserved invariant-loop-h decreases-loop-h
 loop-again c =
-    let e = c.before in
-    let l = e.before.before.before in
-    let s = l.before.before.before.args in
+    let s = c.args in
     record {
       within = omega arith;
-      here = c.next-hour.ensures;
-      each = below_more (λ h. AcceptedPlain s.body.now s.kind s.load s.count (hour_start s.load s.count h)) l.loop.h
-          l.loop.invariant.each (told e);
+      here = c.next_hour-at.ensures;
+      each = below_more (λ h. AcceptedPlain s.body.now s.kind s.load s.count (hour_start s.load s.count h)) c.loop-h.h
+          c.loop-h.invariant.each (told c.before);
     }
 
-returns-2 : tie.Need-returns-2 invariant-loop decreases-loop
-returns-2 c = c.before.loop.invariant
+returns-2 : tie.Need-returns invariant-loop-h decreases-loop-h
+returns-2 c = c.loop-h.invariant
 
-pub glance-hours-spec : {M : Type 1} → statement M
-glance-hours-spec =
-    tie.close (tie.spec invariant-loop decreases-loop (λ c κs. search rules) loop-holds glance-requires returns next-hour-requires (λ c. search rules)
-    (λ c. search rules) loop-again returns-2)
+pub glance_hours_spec : {M : Type 1} → statement M
+glance_hours_spec =
+    tie.close (tie.spec invariant-loop-h decreases-loop-h (λ c κs. search rules) loop-holds glance-requires returns next-hour-requires (λ c. search rules) (λ c. search rules) loop-again returns-2)

@@ -7,19 +7,18 @@ use Rattle.body.proofs.head.Tie as tie
 returns : tie.Need-returns
 unfolding body_head_of
 returns c =
-    c.head-words.ensures
+    c.head_words.ensures
     ∙ rw (
-      c.before.before.before.before.before.before.before.before.word.ensures,
-      c.before.before.before.before.before.before.before.word2.ensures,
-      c.before.before.before.before.before.before.word3.ensures,
-      c.before.before.before.before.magnitude.ensures,
-      c.before.before.before.before.before.word4.ensures,
-      c.before.before.magnitude2.ensures,
-      c.before.before.before.word5.ensures,
-      c.before.word6.ensures,
+      c.word-kind.ensures,
+      c.word-flag.ensures,
+      c.word-days.ensures,
+      c.magnitude-a.ensures,
+      c.word.ensures,
+      c.magnitude-b.ensures,
+      c.word-2.ensures,
+      c.word-load.ensures,
     )
 
 pub head_spec : {M : Type 1} → statement M
 head_spec =
-    tie.close (tie.spec (λ c κs. search rules) (λ c κs. search rules) (λ c κs. search rules) (λ c κs. search rules) (λ c κs. search rules)
-    (λ c κs. search rules) (λ c κs. search rules) (λ c κs. search rules) (λ c κs. search rules) returns)
+    tie.close (tie.spec (λ c κs. search rules) (λ c κs. search rules) (λ c κs. search rules) (λ c κs. search rules) (λ c κs. search rules) (λ c κs. search rules) (λ c κs. search rules) (λ c κs. search rules) (λ c κs. search rules) returns)

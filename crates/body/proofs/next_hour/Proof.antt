@@ -7,5 +7,6 @@ use Rattle.body.proofs.next_hour.Tie as tie
 returns : tie.Need-returns
 returns c = let s = c.args in omega (arith, hour_next s.load s.count s.h)
 
-pub next-hour-spec : {M : Type 1} → statement M
-next-hour-spec = tie.close (tie.spec (λ c. search rules) (λ c. search rules) (λ c. search rules) (λ c. search rules) returns)
+pub next_hour_spec : {M : Type 1} → statement M
+next_hour_spec =
+    tie.close (tie.spec (λ c. search rules) (λ c. search rules) (λ c. search rules) (λ c. search rules) returns)

@@ -8,10 +8,10 @@ use Rattle.book.proofs.entry.Statement.{statement}
 use Rattle.book.proofs.entry.Tie as tie
 
 dated : (c : tie.Else-not-real_date) → real_date c.args.date ≡ true
-dated c = sym c.real_date.ensures ∙ not-false _ c.if-not-real_date.false
+dated c = sym c.real_date.ensures ∙ c.if-not-real_date.false
 
 undated : (c : tie.Then-not-real_date) → real_date c.args.date ≡ false
-undated c = sym c.real_date.ensures ∙ not-true _ c.if-not-real_date.true
+undated c = sym c.real_date.ensures ∙ c.if-not-real_date.true
 
 returns : tie.Need-returns-then-not-real_date
 returns c = search (tests, undated c, rules)

@@ -7,10 +7,9 @@ use borrow.Author.Rules.{rules}
 use Rattle.book.proofs.file_at.Statement.{statement}
 use Rattle.book.proofs.file_at.Tie as tie
 
-part-result-end : tie.Need-slice-bounds-result-end
+part-result-end : tie.Need-slice_bounds-result-end
 part-result-end c =
-    let s = c.before.before.before in
-    omega (arith, file_within _ s.requires.1 _ s.requires.0, c.before.word.ensures, c.word2.ensures)
+    omega (arith, file_within _ c.requires.1 _ c.requires.0, c.word.ensures, c.word-2.ensures)
 
 returns : tie.Need-returns
 returns c =
@@ -22,4 +21,4 @@ returns c =
 
 pub file_at_spec : {M : Type 1} → statement M
 file_at_spec =
-    tie.close (tie.spec (λ c. search rules) (λ c. search rules) (λ c. search rules) (λ c κs. search rules) (λ c. search rules) (λ c. search rules) (λ c. search rules) (λ c κs. search rules) (λ c. search rules) (λ c. search rules) (λ c. search rules) (λ c. search rules) (λ c. search rules) (λ c. search rules) returns)
+    tie.close (tie.spec (λ c. search rules) (λ c. search rules) (λ c. search rules) (λ c κs. search rules) (λ c. search rules) (λ c. search rules) (λ c. search rules) (λ c κs. search rules) (λ c. search rules) (λ c. search rules) (λ c. search rules) (λ c. search rules) (λ c. search rules) part-result-end returns)

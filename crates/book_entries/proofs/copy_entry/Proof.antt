@@ -4,10 +4,8 @@ use Rattle.book_entries.proofs.copy_entry.Tie as tie
 
 returns : tie.Need-returns
 returns c =
-    let put = c.before.before in
-    rw (put.before.before.before.before.word.ensures, put.before.before.word2.ensures) at put.put-entry.ensures
+    rw (c.word-date.ensures, c.word-size.ensures) at c.put_entry.ensures
 
-pub copy-entry-spec : {M : Type 1} → statement M
-copy-entry-spec =
-    tie.close (tie.spec (λ c. search rules) (λ c. search rules) (λ c κs. search rules) (λ c. search rules) (λ c. search rules) (λ c. search rules)
-    (λ c κs. search rules) (λ c κs. search rules) (λ c. search rules) returns)
+pub copy_entry_spec : {M : Type 1} → statement M
+copy_entry_spec =
+    tie.close (tie.spec (λ c. search rules) (λ c. search rules) (λ c κs. search rules) (λ c. search rules) (λ c. search rules) (λ c. search rules) (λ c κs. search rules) (λ c κs. search rules) (λ c. search rules) returns)

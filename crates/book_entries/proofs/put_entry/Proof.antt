@@ -5,14 +5,9 @@ use Rattle.book_entries.proofs.put_entry.Tie as tie
 
 returns : tie.Need-returns
 returns c =
-    let third = c.before.before in
-    let second = third.before.before.before.before in
-    let first = second.before.before.before.before in
-    let s = first.before.before.before in
-    entry_written s.args.room.now first.put_word.new.0 second.put-word2.new.0 _ s.args.k s.args.date s.args.start s.args.size
-    s.requires first.put_word.ensures second.put-word2.ensures third.put-word3.ensures
+    entry_written c.args.room.now c.put_word.new.room c.put_word-2.new.room _ c.args.k c.args.date c.args.start c.args.size
+    c.requires c.put_word.ensures c.put_word-2.ensures c.put_word-3.ensures
 
-pub put-entry-spec : {M : Type 1} → statement M
-put-entry-spec =
-    tie.close (tie.spec (λ c. search rules) (λ c. search rules) (λ c κs. search rules) (λ c. search rules) (λ c κs. search rules) (λ c. search rules)
-    (λ c κs. search rules) (λ c. search rules) returns)
+pub put_entry_spec : {M : Type 1} → statement M
+put_entry_spec =
+    tie.close (tie.spec (λ c. search rules) (λ c. search rules) (λ c κs. search rules) (λ c. search rules) (λ c κs. search rules) (λ c. search rules) (λ c κs. search rules) (λ c. search rules) returns)

@@ -11,15 +11,14 @@ use Rattle.locating.specs.Locating.{word_within, start_within, holder_from, in_b
 use Rattle.locating.proofs.find.Statement.{statement}
 use Rattle.locating.proofs.find.Tie as tie
 
-returns : tie.Need-returns
+returns : tie.Need-returns-then-at-lt4
 unfolding place_of
-returns c = rw (c.head-field.ensures, lt-ltb _ _ c.before.if1.true)
+returns c = rw (c.head_field.ensures, lt-ltb _ _ c.if-at-lt4.true)
 
-returns-2 : tie.Need-returns-2
+returns-2 : tie.Need-returns-then-at-n
 unfolding place_of
 returns-2 c =
-    let w = c.before.before in
-    rw (c.entry-field.ensures, le-ltb _ _ w.before.if1.false, lt-ltb _ _ (rw w.word.ensures at c.before.if2.true))
+    rw (c.entry_field.ensures, le-ltb _ _ c.if-at-lt4.false, lt-ltb _ _ (rw c.word-n.ensures at c.if-at-n.true))
 
 -- behind the contents: in the body that holds the word, or in none
 module _ (file : List ℕ) (at n k : ℕ) (contents : 4 + 3 * n ≤ at) (is : n ≡ word_within file 2) (found : k ≡ holder_from file at 0 n) where
@@ -38,27 +37,20 @@ body_there : (file : List ℕ) (k at start points coordinators : ℕ) → start 
 unfolding in_body_of
 body_there file k at start points coordinators e f g = rw (f, g, e)
 
-returns-3 : tie.Need-returns-3
+returns-3 : tie.Need-returns-then-k-n
 returns-3 c =
-    let w = c.before.before.before in
-    in-none _ _ _ _ c.before.before.if2.false w.word.ensures c.before.holder.ensures.0.0 c.if3.true
+    in-none _ _ _ _ c.if-at-n.false c.word-n.ensures c.holder-k.ensures.0.0 c.if-k-n.true
 
-sub-in-body : tie.Need-overflow-sub-in-body
+sub-in-body : tie.Need-overflow_sub-at-2
 sub-in-body c =
-    let e = c.before.before.before in
-    rw c.before.before.word2.ensures (e.before.holder.ensures.1 e.if3.false)
+    rw c.word-start.ensures (c.holder-k.ensures.1 c.if-k-n.false)
 
-returns-4 : tie.Need-returns-4
+returns-4 : tie.Need-returns
 returns-4 c =
-    let e = c.before.before.before.before in
-    let w = e.before.before.before in
-    c.in-body.ensures
-    ∙ body_there _ _ _ _ _ _ c.before.before.before.word2.ensures c.before.before.word3.ensures c.before.word4.ensures
-    ∙ in_one _ _ _ _ e.before.before.if2.false w.word.ensures e.before.holder.ensures.0.0 e.if3.false
+    c.in_body.ensures
+    ∙ body_there _ _ _ _ _ _ c.word-start.ensures c.word-load.ensures c.word-count.ensures
+    ∙ in_one _ _ _ _ c.if-at-n.false c.word-n.ensures c.holder-k.ensures.0.0 c.if-k-n.false
 
 pub find_spec : {M : Type 1} → statement M
 find_spec =
-    tie.close (tie.spec (λ c κs. search rules) returns (λ c κs. search rules) (λ c. search rules) (λ c. search rules) (λ c. search rules)
-    (λ c. search rules) (λ c κs. search rules) returns-2 (λ c κs. search rules) returns-3 (λ c. search rules) (λ c. search rules) (λ c. search rules)
-    (λ c κs. search rules) (λ c. search rules) (λ c. search rules) (λ c κs. search rules) (λ c. search rules) (λ c. search rules)
-    (λ c κs. search rules) (λ c. search rules) sub-in-body (λ c κs. search rules) returns-4)
+    tie.close (tie.spec (λ c κs. search rules) returns (λ c κs. search rules) (λ c. search rules) (λ c. search rules) (λ c. search rules) (λ c. search rules) (λ c κs. search rules) returns-2 (λ c κs. search rules) returns-3 (λ c. search rules) (λ c. search rules) (λ c. search rules) (λ c κs. search rules) (λ c. search rules) (λ c. search rules) (λ c κs. search rules) (λ c. search rules) (λ c. search rules) (λ c κs. search rules) (λ c. search rules) sub-in-body (λ c κs. search rules) returns-4)

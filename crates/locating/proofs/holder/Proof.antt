@@ -12,11 +12,11 @@ use Rattle.locating.specs.Locating.{holds, holder_from}
 use Rattle.locating.proofs.holder.Statement.{statement}
 use Rattle.locating.proofs.holder.Tie as tie
 
-abbrev invariant-loop : tie.invariant-loop
-invariant-loop file n at k₀ k = (k ≤ n) × (holder_from file at 0 n ≡ holder_from file at k (n - k))
+abbrev invariant-loop-k : tie.invariant-loop-k
+invariant-loop-k file n at k₀ k = (k ≤ n) × (holder_from file at 0 n ≡ holder_from file at k (n - k))
 
-abbrev decreases-loop : tie.decreases-loop
-decreases-loop file n at k₀ k = n - k
+abbrev decreases-loop-k : tie.decreases-loop-k
+decreases-loop-k file n at k₀ k = n - k
 
 -- at k below n: this entry, or the rest
 module _ (file : List ℕ) (at k n : ℕ) (below : k < n) where
@@ -42,35 +42,29 @@ first : (a b : Bool) → (a && b) ≡ true → a ≡ true
 first true b e = refl
 first false b e = e
 
-asked : (c : tie.After-holds invariant-loop decreases-loop) →
-    let l = c.before.before.before.before in
-    holds l.before.before.args.file.now l.before.before.args.at l.loop.k ≡ c.holds.result
+asked : (c : tie.After-holds invariant-loop-k decreases-loop-k) →
+    holds c.args.file.now c.args.at c.loop-k.k ≡ c.holds.result
 asked c =
-    let at = c.before.before.before.before.before.before.args.at in
-    ap₂ (λ start size. leb start at && ltb at (start + size)) (sym c.before.before.word.ensures) (sym c.before.word2.ensures)
+    let at = c.args.at in
+    ap₂ (λ start size. leb start at && ltb at (start + size)) (sym c.word-start.ensures) (sym c.word-size.ensures)
     ∙ sym c.holds.ensures
 
-loop-holds : tie.Need-loop-init invariant-loop decreases-loop
+loop-holds : tie.Need-loop-k-init invariant-loop-k decreases-loop-k
 loop-holds c = (omega arith, rw sub-zero)
 
-returns : tie.Need-returns invariant-loop decreases-loop
+returns : tie.Need-returns-then-holds invariant-loop-k decreases-loop-k
 returns c =
-    let l = c.before.before.before.before.before in
-    let held = asked c.before ∙ c.if1.true in
-    ((sym (l.loop.invariant.1 ∙ here _ _ _ _ (omega arith) held), l.loop.invariant.0), λ _. leb-true _ _ (first _ _ held))
+    let held = asked c.before ∙ c.if-holds.true in
+    ((sym (c.loop-k.invariant.1 ∙ here _ _ _ _ (omega arith) held), c.loop-k.invariant.0), λ _. leb-true _ _ (first _ _ held))
 
-loop-again : tie.Need-loop-preserved invariant-loop decreases-loop
+loop-again : tie.Need-loop-k-preserved invariant-loop-k decreases-loop-k
 loop-again c =
-    let l = c.before.before.before.before.before in
-    (omega arith, l.loop.invariant.1 ∙ next _ _ _ _ (omega arith) (asked c.before ∙ c.if1.false))
+    (omega arith, c.loop-k.invariant.1 ∙ next _ _ _ _ (omega arith) (asked c.before ∙ c.if-holds.false))
 
-returns-2 : tie.Need-returns-2 invariant-loop decreases-loop
+returns-2 : tie.Need-returns invariant-loop-k decreases-loop-k
 returns-2 c =
-    let l = c.before in
-    ((sym (l.loop.invariant.1 ∙ none _ _ _ _ (omega arith)), l.loop.invariant.0), λ other. absurd (other (omega arith)))
+    ((sym (c.loop-k.invariant.1 ∙ none _ _ _ _ (omega arith)), c.loop-k.invariant.0), λ other. absurd (other (omega arith)))
 
-pub holder-spec : {M : Type 1} → statement M
-holder-spec =
-    tie.close (tie.spec invariant-loop decreases-loop loop-holds (λ c. search rules) (λ c. search rules) (λ c. search rules) (λ c κs. search rules)
-    (λ c. search rules) (λ c. search rules) (λ c. search rules) (λ c. search rules) (λ c κs. search rules) (λ c. search rules) (λ c κs. search rules)
-    returns (λ c. search rules) (λ c. search rules) loop-again returns-2)
+pub holder_spec : {M : Type 1} → statement M
+holder_spec =
+    tie.close (tie.spec invariant-loop-k decreases-loop-k loop-holds (λ c. search rules) (λ c. search rules) (λ c. search rules) (λ c κs. search rules) (λ c. search rules) (λ c. search rules) (λ c. search rules) (λ c. search rules) (λ c κs. search rules) (λ c. search rules) (λ c κs. search rules) returns (λ c. search rules) (λ c. search rules) loop-again returns-2)

@@ -3,11 +3,12 @@ use Rattle.verdict.proofs.Tests.{tests}
 use Rattle.locating.proofs.interval_field.Statement.{statement}
 use Rattle.locating.proofs.interval_field.Tie as tie
 
-returns : tie.Need-returns
+returns : tie.Need-returns-then-word-eq0
 returns c = search tests
 
-returns-2 : tie.Need-returns-2
+returns-2 : tie.Need-returns
 returns-2 c = search tests
 
-pub interval-field-spec : {M : Type 1} → statement M
-interval-field-spec = tie.close (tie.spec (λ c. search rules) returns returns-2)
+pub interval_field_spec : {M : Type 1} → statement M
+interval_field_spec =
+    tie.close (tie.spec (λ c. search rules) returns returns-2)

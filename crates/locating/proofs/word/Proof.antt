@@ -5,16 +5,17 @@ use Rattle.locating.specs.Locating.{word_within}
 use Rattle.locating.proofs.word.Statement.{statement}
 use Rattle.locating.proofs.word.Tie as tie
 
-returns : tie.Need-returns
+returns : tie.Need-returns-then-file-i
 unfolding word_within
-returns c = rw (le-leb _ _ c.if1.true)
+returns c = rw (le-leb _ _ c.if-file-i.true)
 
 word-requires : tie.Need-word-requires
-word-requires c κs = omega (arith, c.if1.false)
+word-requires c κs = omega (arith, c.if-file-i.false)
 
-returns-2 : tie.Need-returns-2
+returns-2 : tie.Need-returns
 unfolding word_within
-returns-2 c = c.word.ensures ∙ rw (lt-leb _ _ c.before.if1.false)
+returns-2 c = c.word.ensures ∙ rw (lt-leb _ _ c.if-file-i.false)
 
-pub word-spec : {M : Type 1} → statement M
-word-spec = tie.close (tie.spec returns word-requires returns-2)
+pub word_spec : {M : Type 1} → statement M
+word_spec =
+    tie.close (tie.spec returns word-requires returns-2)

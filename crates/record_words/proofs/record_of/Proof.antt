@@ -23,7 +23,7 @@ loop-holds c = (omega arith, refl, λ j h. absurd (omega arith))
 loop-again : tie.Need-loop-k-preserved invariant-loop-k decreases-loop-k
 loop-again c =
     let l = c.loop-k in
-    let words = c.args.t1 in
+    let words = c.args.words in
     let inside : l.k < length l.places = omega arith in (
       omega arith,
       simp length-set l.invariant.1,

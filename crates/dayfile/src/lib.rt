@@ -1,5 +1,6 @@
 // The day file: the check of all its words, with which of its areas are plain, and the lookup of an area's body.
 #![tactic(auto)]
+
 ghost use Rattle.std.specs.Prelude.{◌≡◌, ◌+◌, ◌*◌, ◌≤◌, ◌<◌, ◌^◌, length};
 ghost use Rattle.words.specs.Word.{word_at};
 ghost use Rattle.verdict.specs.Verdict.{number_of};

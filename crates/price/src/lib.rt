@@ -1,5 +1,6 @@
 // The load-weighted price of an hour: an average that is built up one interval at a time.
 #![tactic(auto)]
+
 ghost use Rattle.std.specs.Prelude.{◌≡◌, ◌+◌, ◌*◌, ◌^◌, ◌<◌, ◌≤◌, length, FitsSigned};
 ghost use Rattle.std.specs.Int.{w64};
 ghost use Rattle.limits.specs.Ranges.{proved_points, proved_intervals};

@@ -1,5 +1,6 @@
 // Sharing one amount among coordinators by their running demands, over number slices and over words of a file.
 #![tactic(auto)]
+
 ghost use Rattle.std.specs.Prelude.{◌≡◌, ◌++◌, ◌+◌, ◌*◌, ◌/◌, ◌≤◌, ◌<◌, ◌^◌, true, false, cond, ◌||◌, eqb, leb, ltb, nat_abs, length, drop};
 ghost use Rattle.exact.specs.Round.{half_up};
 ghost use Rattle.exact.specs.Total.{total};

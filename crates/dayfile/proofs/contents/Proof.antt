@@ -11,48 +11,42 @@ use Rattle.dayfile.specs.Check.{entry_rule_at, contents_rule}
 use Rattle.dayfile.proofs.contents.Statement.{statement}
 use Rattle.dayfile.proofs.contents.Tie as tie
 
-abbrev invariant-loop : tie.invariant-loop
-invariant-loop most file n size before₀ due₀ k₀ before due k =
+abbrev invariant-loop-k : tie.invariant-loop-k
+invariant-loop-k most file n size before₀ due₀ k₀ before due k =
     (k ≤ n) × (before ≡ number_before file k) × (due ≡ due_at file n k) × (contents_rule most file n ≡ scan (entry_rule_at most file n) k (n - k))
 
-abbrev decreases-loop : tie.decreases-loop
-decreases-loop most file n size before₀ due₀ k₀ before due k = n - k
+abbrev decreases-loop-k : tie.decreases-loop-k
+decreases-loop-k most file n size before₀ due₀ k₀ before due k = n - k
 
-turn : (c : tie.After-entry invariant-loop decreases-loop) →
-    let s = c.before.before.before.before.before.before.before.args in
-    c.entry.result ≡ entry_rule_at s.most s.file.now s.n c.before.before.before.before.before.loop.k
+turn : (c : tie.After-entry-v invariant-loop-k decreases-loop-k) →
+    let s = c.args in
+    c.entry-v.result ≡ entry_rule_at s.most s.file.now s.n c.loop-k.k
 unfolding entry_rule_at
 turn c =
-    let l = c.before.before.before.before.before.loop in
-    c.entry.ensures ∙ rw (l.invariant.1, l.invariant.2, c.before.before.before.word.ensures, c.before.before.word2.ensures, c.before.word3.ensures)
+    let l = c.loop-k in
+    c.entry-v.ensures ∙ rw (l.invariant.1, l.invariant.2, c.word-number.ensures, c.word-start.ensures, c.word-words.ensures)
 
-loop-holds : tie.Need-loop-init invariant-loop decreases-loop
+loop-holds : tie.Need-loop-k-init invariant-loop-k decreases-loop-k
 unfolding number_before due_at contents_rule
 loop-holds c = (omega arith, refl, refl, simp sub-zero)
 
-returns : tie.Need-returns invariant-loop decreases-loop
+returns : tie.Need-returns-then-number-ne0 invariant-loop-k decreases-loop-k
 returns c =
-    let i = c.before.before.before.before.before.before in
-    loop_stop _ _ _ _ _ _ i.before.loop.invariant.3 i.loop-test.true (turn c.before.before) c.before.number.ensures c.if1.true
+    loop_stop _ _ _ _ _ _ c.loop-k.invariant.3 c.loop-k-test.true (turn c.before.before) c.number.ensures c.if-number-ne0.true
 
-loop-again : tie.Need-loop-preserved invariant-loop decreases-loop
+loop-again : tie.Need-loop-k-preserved invariant-loop-k decreases-loop-k
 unfolding number_before due_at
-loop-again c =
-    let i = c.before.before.before.before.before.before in
-    let w = c.before.before.before in (
-      omega arith,
-      rw add-one w.before.before.word.ensures,
-      rw (add-one, w.before.word2.ensures, w.word3.ensures),
-      loop_next _ _ _ _ _ _
-          i.before.loop.invariant.3 i.loop-test.true (turn c.before.before) c.before.number.ensures c.if1.false,
-    )
+loop-again c = (
+  omega arith,
+  rw add-one c.word-number.ensures,
+  rw (add-one, c.word-start.ensures, c.word-words.ensures),
+  loop_next _ _ _ _ _ _
+      c.loop-k.invariant.3 c.loop-k-test.true (turn c.before.before) c.number.ensures c.if-number-ne0.false,
+)
 
-returns-2 : tie.Need-returns-2 invariant-loop decreases-loop
+returns-2 : tie.Need-returns invariant-loop-k decreases-loop-k
 returns-2 c = search loop_done
 
-pub contents-spec : {M : Type 1} → statement M
-contents-spec =
-    tie.close (tie.spec invariant-loop decreases-loop (λ c. search rules) (λ c. search rules) loop-holds (λ c. search rules) (λ c. search rules)
-    (λ c κs. search rules) (λ c. search rules) (λ c κs. search rules) (λ c. search rules) (λ c. search rules) (λ c κs. search rules)
-    (λ c. search rules) (λ c κs. search rules) (λ c κs. search rules) returns (λ c. search rules) (λ c. search rules) (λ c. search rules) loop-again
-    returns-2)
+pub contents_spec : {M : Type 1} → statement M
+contents_spec =
+    tie.close (tie.spec invariant-loop-k decreases-loop-k (λ c. search rules) (λ c. search rules) loop-holds (λ c. search rules) (λ c. search rules) (λ c κs. search rules) (λ c. search rules) (λ c κs. search rules) (λ c. search rules) (λ c. search rules) (λ c κs. search rules) (λ c. search rules) (λ c κs. search rules) (λ c κs. search rules) returns (λ c. search rules) (λ c. search rules) (λ c. search rules) loop-again returns-2)

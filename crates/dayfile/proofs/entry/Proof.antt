@@ -5,6 +5,4 @@ use Rattle.dayfile.proofs.entry.Tie as tie
 
 pub entry_spec : {M : Type 1} → statement M
 entry_spec =
-    tie.close (tie.spec (λ c. search tests) (λ c. search tests) (λ c. search rules) (λ c. search tests) (λ c. search rules) (λ c. search tests)
-    (λ c. search rules) (λ c. search tests) (λ c. search rules) (λ c. search rules) (λ c. search tests) (λ c. search rules) (λ c. search tests)
-    (λ c. search rules) (λ c. search rules) (λ c. search tests) (λ c. search tests))
+    tie.close (tie.spec (λ c. search tests) (λ c. search tests) (λ c. search rules) (λ c. search tests) (λ c. search rules) (λ c. search tests) (λ c. search rules) (λ c. search tests) (λ c. search rules) (λ c. search rules) (λ c. search tests) (λ c. search rules) (λ c. search tests) (λ c. search rules) (λ c. search rules) (λ c. search tests) (λ c. search tests))

@@ -7,11 +7,11 @@ use Rattle.dayfile.proofs.head.Tie as tie
 returns : tie.Need-returns
 unfolding file_head_of
 returns c =
-    c.head-words.ensures ∙ rw (
-      c.before.before.before.before.word.ensures,
-      c.before.before.before.word2.ensures,
-      c.before.before.word3.ensures,
-      c.before.word4.ensures,
+    c.head_words.ensures ∙ rw (
+      c.word-edition.ensures,
+      c.word-day.ensures,
+      c.word-n.ensures,
+      c.word-peak.ensures,
     )
 
 pub head_spec : {M : Type 1} → statement M

@@ -7,5 +7,6 @@ returns : tie.Need-returns
 unfolding load_weighted
 returns c = search rules
 
-pub load-weighted-spec : {M : Type 1} → statement M
-load-weighted-spec = tie.close (tie.spec (λ c κs. search rules) returns)
+pub load_weighted_spec : {M : Type 1} → statement M
+load_weighted_spec =
+    tie.close (tie.spec (λ c κs. search rules) returns)

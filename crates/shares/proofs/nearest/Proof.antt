@@ -45,39 +45,37 @@ facts s =
       result = rounded (r * c) t g near.0 near.1;
     }
 
-mul-guess : tie.Need-overflow-mul-guess
+mul-guess : tie.Need-overflow_mul-guess
 mul-guess c = let f = facts c.before in omega arith
 
-mul-twice : tie.Need-overflow-mul-twice
+mul-twice : tie.Need-overflow_mul-twice
 mul-twice c = let f = facts c.before.before in omega arith
 
-mul-twice-2 : tie.Need-overflow-mul-twice-2
+mul-twice-2 : tie.Need-overflow_mul-twice-2
 mul-twice-2 c = let f = facts c.before.before in omega arith
 
-sub-twice : tie.Need-overflow-sub-twice
+sub-twice : tie.Need-overflow_sub-twice
 sub-twice c = let f = facts c.before.before in omega arith
 
-mul-twice-3 : tie.Need-overflow-mul-twice-3
+mul-twice-3 : tie.Need-overflow_mul-twice-3
 mul-twice-3 c = let f = facts c.before.before in omega arith
 
-mul-result : tie.Need-overflow-mul-result
+mul-result : tie.Need-overflow_mul-result
 mul-result c = let f = facts c.before.before.before in omega arith
 
-add-result : tie.Need-overflow-add-result
+add-result : tie.Need-overflow_add-result
 add-result c = let f = facts c.before.before.before.before in omega arith
 
-add-result-2 : tie.Need-overflow-add-result-2
+add-result-2 : tie.Need-overflow_add-result-2
 add-result-2 c = let f = facts c.before.before.before.before.before in omega arith
 
-add-result-3 : tie.Need-overflow-add-result-3
+add-result-3 : tie.Need-overflow_add-result-3
 add-result-3 c = let f = facts c.before.before.before.before.before in omega arith
 
 returns : tie.Need-returns
 returns c =
-    let s = c.before.before.before.before.before in
-    rw (c.before.reached.ensures.0, c.reached2.ensures.0) (ap (λ n. s.args.rates.each * s.args.running + n) (facts s).result)
+    rw (c.reached.ensures.0, c.reached-2.ensures.0) (ap (λ n. c.args.rates.each * c.args.running + n) (facts c.before.before.before.before.before).result)
 
-pub nearest-spec : {M : Type 1} → statement M
-nearest-spec =
-    tie.close (tie.spec (λ c. search rules) mul-guess (λ c. search rules) mul-twice mul-twice-2 sub-twice mul-twice-3 mul-result (λ c κs. search rules)
-    add-result (λ c. search rules) (λ c κs. search rules) add-result-2 add-result-3 returns)
+pub nearest_spec : {M : Type 1} → statement M
+nearest_spec =
+    tie.close (tie.spec (λ c. search rules) mul-guess (λ c. search rules) mul-twice mul-twice-2 sub-twice mul-twice-3 mul-result (λ c κs. search rules) add-result (λ c. search rules) (λ c κs. search rules) add-result-2 add-result-3 returns)

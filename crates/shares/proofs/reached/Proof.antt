@@ -15,5 +15,6 @@ by false = (refl, omega arith)
 returns : tie.Need-returns
 returns c = by (leb c.args.bound c.args.number)
 
-pub reached-spec : {M : Type 1} → statement M
-reached-spec = tie.close (tie.spec (λ c. search rules) returns)
+pub reached_spec : {M : Type 1} → statement M
+reached_spec =
+    tie.close (tie.spec (λ c. search rules) returns)

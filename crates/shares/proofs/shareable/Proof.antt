@@ -15,11 +15,12 @@ some (pos zero) h e = h refl
 some (pos (suc n)) h e = omega arith
 some (negsuc n) h e = omega arith
 
-returns : tie.Need-returns
-returns c = simp (eq-eqb _ _ (ap nat_abs (zero_bits c.before.ranges.amount c.if1.true)))
+returns : tie.Need-returns-then-amount-eq0
+returns c = simp (eq-eqb _ _ (ap nat_abs (zero_bits c.ranges.amount c.if-amount-eq0.true)))
 
-returns-2 : tie.Need-returns-2
-returns-2 c = simp (ne_eqb _ _ (some c.before.args.amount c.if1.false))
+returns-2 : tie.Need-returns
+returns-2 c = simp (ne_eqb _ _ (some c.args.amount c.if-amount-eq0.false))
 
-pub shareable-spec : {M : Type 1} → statement M
-shareable-spec = tie.close (tie.spec returns returns-2)
+pub shareable_spec : {M : Type 1} → statement M
+shareable_spec =
+    tie.close (tie.spec returns returns-2)

@@ -19,6 +19,9 @@ use Rattle.shares.proofs.ByRates.{by_rates}
 use Rattle.shares.proofs.up_to.Statement.{statement}
 use Rattle.shares.proofs.up_to.Tie as tie
 
+abbrev start : tie.Else-rates → tie.Start
+start c = c.before.before.before.before
+
 half_by_zero : (a : ℕ) → half_up a 0 ≡ 0
 half_by_zero a = rw (mul-zero 2, div-zero)
 
@@ -51,69 +54,64 @@ result_fits s =
     within w64 _ (omega (arith, product-fits s, abs_round (z *ℤ pos s.args.running) s.args.whole, abs_mul z (pos s.args.running)))
 
 -- back from the rates to the start
-abbrev start : tie.Else4 → tie.Start
-start c = c.before.before.before.before
 
-rates-are : (c : tie.Else4) → let s = (start c).args in
+rates-are : (c : tie.Else-rates) → let s = c.args in
     s.rates ≡ rates_of s.amount s.whole
-rates-are c = (start c).requires.0 c.if4.false
+rates-are c = c.requires.0 c.if-rates.false
 
-some : (c : tie.Else4) → 0 < (start c).args.whole
-some c = omega (arith, c.before.before.before.if1.false)
+some : (c : tie.Else-rates) → 0 < c.args.whole
+some c = omega (arith, c.if-whole-eq0.false)
 
-next-is : (c : tie.After-nearest) → let s = (start c.before).args in
-    c.nearest.result ≡ half_up (nat_abs s.amount * s.running) s.whole
+next-is : (c : tie.After-nearest-next) → let s = c.args in
+    c.nearest-next.result ≡ half_up (nat_abs s.amount * s.running) s.whole
 unfolding rates_of
 next-is c =
-    let s = (start c.before).args in
-    rw (rates-are c.before) at c.nearest.ensures ∙ by_rates (nat_abs s.amount) s.whole s.running (some c.before)
+    let s = c.args in
+    rw (rates-are c.before) at c.nearest-next.ensures ∙ by_rates (nat_abs s.amount) s.whole s.running (some c.before)
 
-next_small : (c : tie.After-nearest) → c.nearest.result < 2 ^ 63
+next_small : (c : tie.After-nearest-next) → c.nearest-next.result < 2 ^ 63
 unfolding round_div
 next_small c =
     let s = start c.before in
     omega (arith, next-is c, product-fits s, abs_round (pos (nat_abs s.args.amount * s.args.running)) s.args.whole)
 
-next-back : (c : tie.After-nearest) → let s = (start c.before).args in
-    to_z w64 c.nearest.result ≡ pos (half_up (nat_abs s.amount * s.running) s.whole)
+next-back : (c : tie.After-nearest-next) → let s = c.args in
+    to_z w64 c.nearest-next.result ≡ pos (half_up (nat_abs s.amount * s.running) s.whole)
 next-back c = to_z_pos w64 _ (next_small c) ∙ ap pos (next-is c)
 
-turned : (c : tie.Then5) → let s = (start c.before.before).args in
-    pos 0 -ℤ to_z w64 c.before.nearest.result ≡ up_to s.amount s.whole s.running
+turned : (c : tie.Then-amount-lt0) → let s = c.args in
+    pos 0 -ℤ to_z w64 c.nearest-next.result ≡ up_to s.amount s.whole s.running
 turned c =
     let s = start c.before.before in
-    rw (next-back c.before) (below s.args.amount s.args.whole s.args.running (rw (to_z-of_z w64 _ s.fits.amount) at c.if5.true))
+    rw (next-back c.before) (below s.args.amount s.args.whole s.args.running (rw (to_z-of_z w64 _ s.fits.amount) at c.if-amount-lt0.true))
 
-returns : tie.Need-returns
-returns c = rw (c.if1.true, by_zero)
+returns : tie.Need-returns-then-whole-eq0
+returns c = rw (c.if-whole-eq0.true, by_zero)
 
-returns-2 : tie.Need-returns-2
+returns-2 : tie.Need-returns-then-amount-eq0
 returns-2 c =
-    let s = c.before.before in
-    rw (zero_bits s.ranges.amount c.if2.true, zero_times s.args.running) (sym (round_zero s.args.whole))
+    rw (zero_bits c.ranges.amount c.if-amount-eq0.true, zero_times c.args.running) (sym (round_zero c.args.whole))
 
-returns-3 : tie.Need-returns-3
+returns-3 : tie.Need-returns-then-running-whole
 returns-3 c =
-    let s = c.before.before.before in
-    let e : s.args.running ≡ s.args.whole = c.if3.true in
-    let some : 0 < s.args.whole = omega (arith, c.before.before.if1.false) in
-    to_z-of_z w64 _ s.ranges.amount ∙ sym (rw e (round_exact s.args.amount s.args.whole some))
+    let e : c.args.running ≡ c.args.whole = c.if-running-whole.true in
+    let some : 0 < c.args.whole = omega (arith, c.if-whole-eq0.false) in
+    to_z-of_z w64 _ c.ranges.amount ∙ sym (rw e (round_exact c.args.amount c.args.whole some))
 
 times-requires : tie.Need-times-requires
 times-requires c κs =
-    let s = c.before.before.before.before in
-    rw (to_z-of_z w64 _ s.ranges.amount) (within w64 _ (rw (abs_mul s.args.amount (pos s.args.running)) (product-fits s)))
+    rw (to_z-of_z w64 _ c.ranges.amount) (within w64 _ (rw (abs_mul c.args.amount (pos c.args.running)) (product-fits c.before.before.before.before)))
 
-round-div-requires : tie.Need-round-div-requires
-round-div-requires c κs = omega (arith, c.before.before.before.before.if1.false)
+round-div-requires : tie.Need-round_div-requires
+round-div-requires c κs = omega (arith, c.if-whole-eq0.false)
 
-returns-4 : tie.Need-returns-4
+returns-4 : tie.Need-returns-then-rates
 returns-4 c =
-    let t = c.before.times in
-    got w64 c.round-div.type-inv
-    (c.round-div.ensures ∙ simp (got w64 t.type-inv t.ensures, to_z-of_z w64 _ c.before.before.before.before.before.before.ranges.amount))
+    let t = c.times in
+    got w64 c.round_div.type_inv
+    (c.round_div.ensures ∙ simp (got w64 t.type_inv t.ensures, to_z-of_z w64 _ c.ranges.amount))
 
-nearest-requires : tie.Need-nearest-requires
+nearest-requires : tie.Need-nearest-next-requires
 unfolding rates_of
 nearest-requires c κs =
     let s = start c in
@@ -124,21 +122,20 @@ nearest-requires c κs =
     let cents : a / t * t < 2 ^ 63 = omega (arith, div-mul-le_self a t, le-mul_of_pos_right a whole, k.1.1) in
     ((whole, (k.1.0, k.0)), rw (rates-are c) (cents, (mod-lt a whole, refl)))
 
-cast-next : tie.Need-overflow-cast-next
+cast-next : tie.Need-overflow_cast-next
 cast-next c = within w64 _ (next_small c)
 
-sub-result : tie.Need-overflow-sub-result
-sub-result c = rw (turned c) (result_fits (start c.before.before))
+sub-result : tie.Need-overflow_sub-result
+sub-result c = rw (turned c) (result_fits c.before.before.before.before.before.before)
 
-returns-5 : tie.Need-returns-5
-returns-5 c = rw (turned c) (to_z-of_z w64 _ (result_fits (start c.before.before)))
+returns-5 : tie.Need-returns-then-amount-lt0
+returns-5 c = rw (turned c) (to_z-of_z w64 _ (result_fits c.before.before.before.before.before.before))
 
-returns-6 : tie.Need-returns-6
+returns-6 : tie.Need-returns
 returns-6 c =
     let s = start c.before.before in
-    next-back c.before ∙ above s.args.amount s.args.whole s.args.running (rw (to_z-of_z w64 _ s.fits.amount) at c.if5.false)
+    next-back c.before ∙ above s.args.amount s.args.whole s.args.running (rw (to_z-of_z w64 _ s.fits.amount) at c.if-amount-lt0.false)
 
-pub up-to-spec : {M : Type 1} → statement M
-up-to-spec =
-    tie.close (tie.spec returns returns-2 returns-3 times-requires round-div-requires returns-4 nearest-requires cast-next sub-result
-    returns-5 returns-6)
+pub up_to_spec : {M : Type 1} → statement M
+up_to_spec =
+    tie.close (tie.spec returns returns-2 returns-3 times-requires round-div-requires returns-4 nearest-requires cast-next sub-result returns-5 returns-6)

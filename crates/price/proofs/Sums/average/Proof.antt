@@ -5,13 +5,14 @@ use Rattle.price.proofs.Sums.average.Tie as tie
 
 lowered-requires : tie.Need-lowered-requires
 unfolding average_from
-lowered-requires c κs = c.before.before.requires
+lowered-requires c κs = c.requires
 
 returns : tie.Need-returns
 unfolding average_from
 returns c =
-    let self = c.before.before.before.args.self in
+    let self = c.args.self in
     ap (λ z. record { value = record { 0 = z }; quantity = self.quantity; count = self.count }) c.lowered.ensures
 
-pub average-spec : {M : Type 1} → statement M
-average-spec = tie.close (tie.spec lowered-requires returns)
+pub average_spec : {M : Type 1} → statement M
+average_spec =
+    tie.close (tie.spec lowered-requires returns)

@@ -1,5 +1,6 @@
 // An amount shared over two columns, coordinators and demands, which are checked first.
 #![tactic(auto)]
+
 ghost use Rattle.std.specs.Prelude.{◌≡◌, ◌≤◌, leb, nat_abs, length};
 ghost use Rattle.limits.specs.Ranges.{most_demand, most_amount};
 ghost use Rattle.columns.specs.Columns.{row_rule, rows_rule, charges_rule, columns_rule, SharedColumns};

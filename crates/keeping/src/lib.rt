@@ -1,5 +1,6 @@
 // Adds a day to a month book in lent room, and withdraws one: the calls `add_day` and `withdraw_day`.
 #![tactic(auto)]
+
 ghost use Rattle.std.specs.Prelude.{◌≡◌, ◌<◌, ◌^◌};
 ghost use Rattle.book.specs.Sound.{Sound};
 ghost use Rattle.keeping.specs.Keeping.{day_rule, add_rule, with_day, withdraw_rule, without_day};

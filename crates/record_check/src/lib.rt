@@ -1,5 +1,6 @@
 // The test of a record of failing days: whether accepted entries leave it, and whether a trading day comes after its last day.
 #![tactic(auto)]
+
 ghost use Rattle.std.specs.Prelude.{◌≡◌, true, ◌≤◌, drop};
 ghost use Rattle.limits.specs.Editions.{most_held};
 ghost use Rattle.verdict.specs.Verdict.{number_of};

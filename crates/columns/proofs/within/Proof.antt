@@ -5,7 +5,8 @@ use Rattle.columns.proofs.within.Statement.{statement}
 use Rattle.columns.proofs.within.Tie as tie
 
 returns : tie.Need-returns
-returns c = simp (c.absolute.ensures, to_z-of_z w64 _ c.before.ranges.amount)
+returns c = simp (c.absolute.ensures, to_z-of_z w64 _ c.ranges.amount)
 
-pub within-spec : {M : Type 1} → statement M
-within-spec = tie.close (tie.spec (λ c κs. search rules) (λ c. search rules) returns)
+pub within_spec : {M : Type 1} → statement M
+within_spec =
+    tie.close (tie.spec (λ c κs. search rules) (λ c. search rules) returns)

@@ -16,49 +16,43 @@ use Rattle.keeping.proofs.admit.Statement.{statement}
 use Rattle.keeping.proofs.admit.Tie as tie
 use Rattle.dayfile.proofs.check.Reads as check-reads'
 
-abbrev start : tie.Else1 → tie.Start
-start c = c.before.before.before.before.before
-
-past-book : (c : tie.Else1) →
-    let s = (start c).args in
+past-book : (c : tie.Else-number-ne0) →
+    let s = c.args in
     add_rule s.book.now s.file.now ≡ (check_of s.file.now or_else day_rule s.book.now (day_of s.file.now) (length s.file.now / 4))
 past-book c =
-    let s = (start c).args in
-    seq_next _ _ _ _ _ (add_parts s.book.now s.file.now) c.before.before.check.ensures c.before.number.ensures c.if1.false
+    let s = c.args in
+    seq_next _ _ _ _ _ (add_parts s.book.now s.file.now) c.check-first.ensures c.number.ensures c.if-number-ne0.false
 
-long : (c : tie.Else2) → 16 ≤ length (start c.before.before.before).args.file.now
+long : (c : tie.Else-number-ne0-2) → 16 ≤ length c.args.file.now
 long c =
-    let file = (start c.before.before.before).args.file.now in
-    let z = ap number_of (sym c.before.before.check2.ensures) ∙ sym c.before.number2.ensures ∙ c.if2.false in
+    let file = c.args.file.now in
+    let z = ap number_of (sym c.check-second.ensures) ∙ sym c.number-2.ensures ∙ c.if-number-ne0-2.false in
     (file_length _ file (within_limits file z)).least
 
-returns : tie.Need-returns
+returns : tie.Need-returns-then-number-ne0
 returns c =
-    let s = c.before.before.before.before.before.args in
-    seq_stop _ _ _ _ _ (add_parts s.book.now s.file.now) c.before.before.check.ensures c.before.number.ensures c.if1.true
+    let s = c.args in
+    seq_stop _ _ _ _ _ (add_parts s.book.now s.file.now) c.check-first.ensures c.number.ensures c.if-number-ne0.true
 
-returns-2 : tie.Need-returns-2
+returns-2 : tie.Need-returns-then-number-ne0-2
 returns-2 c =
-    seq_stop _ _ _ _ _ (past-book c.before.before.before) c.before.before.check2.ensures c.before.number2.ensures c.if2.true
+    seq_stop _ _ _ _ _ (past-book c.before.before.before) c.check-second.ensures c.number-2.ensures c.if-number-ne0-2.true
 
 word-requires : tie.Need-word-requires
 word-requires c κs = omega (arith, long c)
 
 judge-requires : tie.Need-judge-requires
 judge-requires c κs =
-    let e = c.before.before.before.before in
-    let z = ap number_of (sym e.before.before.check.ensures) ∙ sym e.before.number.ensures ∙ e.if1.false in
+    let z = ap number_of (sym c.check-first.ensures) ∙ sym c.number.ensures ∙ c.if-number-ne0.false in
     (sound_book _ z, omega arith)
 
-returns-3 : tie.Need-returns-3
+returns-3 : tie.Need-returns
 returns-3 c =
-    let e = c.before.before in
-    let s = (start e.before.before.before).args in
+    let s = c.args in
     c.judge.ensures
-    ∙ ap (λ date. day_rule s.book.now date (length s.file.now / 4)) c.before.word.ensures
-    ∙ sym (seq_next _ _ _ _ _ (past-book e.before.before.before) e.before.before.check2.ensures e.before.number2.ensures e.if2.false)
+    ∙ ap (λ date. day_rule s.book.now date (length s.file.now / 4)) c.word.ensures
+    ∙ sym (seq_next _ _ _ _ _ (past-book c.before.before.before.before.before) c.check-second.ensures c.number-2.ensures c.if-number-ne0-2.false)
 
-pub admit-spec : {M : Type 1} → statement M
-admit-spec =
-    tie.close (tie.spec (λ c κs. search rules) (λ c κs. search rules) returns (λ c κs. search rules) (λ c κs. search rules) returns-2 word-requires
-    judge-requires returns-3)
+pub admit_spec : {M : Type 1} → statement M
+admit_spec =
+    tie.close (tie.spec (λ c κs. search rules) (λ c κs. search rules) returns (λ c κs. search rules) (λ c κs. search rules) returns-2 word-requires judge-requires returns-3)

@@ -19,31 +19,29 @@ opened : (r : Record) (file : List ℕ) → admit_rule r file ≡ (check_of file
 unfolding admit_rule
 opened r file = refl
 
-returns : tie.Need-returns
+returns : tie.Need-returns-then-number-ne0
 returns c =
-    let s = c.before.before.before.before.args in (
-      seq_stop _ _ _ _ _ (opened s.given s.file.now) c.before.before.checked.ensures.0 c.before.number.ensures c.if1.true,
-      c.before.before.checked.ensures.1,
+    let s = c.args in (
+      seq_stop _ _ _ _ _ (opened s.given s.file.now) c.checked-told.ensures.0 c.number.ensures c.if-number-ne0.true,
+      c.checked-told.ensures.1,
     )
 
 word-requires : tie.Need-word-requires
 word-requires c κs =
-    let e = c.before in
-    let f = e.before.before.before.before.args.file.now in
-    let accepted = sym (ap number_of e.before.before.checked.ensures.0) ∙ sym e.before.number.ensures ∙ e.if1.false in
+    let f = c.args.file.now in
+    let accepted = sym (ap number_of c.checked-told.ensures.0) ∙ sym c.number.ensures ∙ c.if-number-ne0.false in
     let r = (file_head _ f (within_limits f accepted)).room in
     omega arith
 
-returns-2 : tie.Need-returns-2
+returns-2 : tie.Need-returns
 returns-2 c =
-    let e = c.before.before.before in
-    let checked = e.before.before.checked.ensures in
-    let s = e.before.before.before.before.args in (
-      c.judge.ensures ∙ ap (record_rule s.given) c.before.word.ensures
-          ∙ sym (seq_next _ _ _ _ _ (opened s.given s.file.now) checked.0 e.before.number.ensures e.if1.false),
-      λ z. checked.1 (sym e.before.number.ensures ∙ e.if1.false),
+    let checked = c.checked-told.ensures in
+    let s = c.args in (
+      c.judge-answer.ensures ∙ ap (record_rule s.given) c.word.ensures
+          ∙ sym (seq_next _ _ _ _ _ (opened s.given s.file.now) checked.0 c.number.ensures c.if-number-ne0.false),
+      λ z. checked.1 (sym c.number.ensures ∙ c.if-number-ne0.false),
     )
 
-pub admit-spec : {M : Type 1} → statement M
-admit-spec =
+pub admit_spec : {M : Type 1} → statement M
+admit_spec =
     tie.close (tie.spec (λ c κs. search rules) (λ c κs. search rules) returns word-requires (λ c κs. search rules) returns-2)

@@ -9,16 +9,16 @@ use Rattle.record_check.proofs.gap.Tie as tie
 before : (c : tie.Start) → Before c.args.given c.args.date
 before c = record_before _ _ c.requires.1
 
-day-number-requires : tie.Need-day-number-requires
+day-number-requires : tie.Need-day_number-day-requires
 day-number-requires c κs = c.requires.0
 
-last-number-requires : tie.Need-last-number-requires
+last-number-requires : tie.Need-last_number-before-requires
 last-number-requires c κs = (before c.before).left.last.real
 
-sub-result : tie.Need-overflow-sub-result
+sub-result : tie.Need-overflow_sub-result
 sub-result c =
-    let s = c.before.before in
-    omega (arith, c.last-number.ensures, c.before.day-number.ensures, not_falling s.args.given.last s.args.date (le_of_lt (before s).after))
+    omega (arith, c.last_number-before.ensures, c.day_number-day.ensures, not_falling c.args.given.last c.args.date (le_of_lt (before c.before.before).after))
 
-pub gap-spec : {M : Type 1} → statement M
-gap-spec = tie.close (tie.spec day-number-requires last-number-requires sub-result (λ c. search rules))
+pub gap_spec : {M : Type 1} → statement M
+gap_spec =
+    tie.close (tie.spec day-number-requires last-number-requires sub-result (λ c. search rules))

@@ -13,60 +13,50 @@ use Rattle.record_check.proofs.Left.{place_kept, places_stop, places_next, place
 use Rattle.record_check.proofs.places_left.Statement.{statement}
 use Rattle.record_check.proofs.places_left.Tie as tie
 
-abbrev invariant-loop : tie.invariant-loop
-invariant-loop end places held low₀ k₀ low k = (k ≤ held) × (places_left end 1 (take held places) ≡ places_left end low (drop k (take held places)))
+abbrev invariant-loop-k : tie.invariant-loop-k
+invariant-loop-k end places held low₀ k₀ low k = (k ≤ held) × (places_left end 1 (take held places) ≡ places_left end low (drop k (take held places)))
 
-abbrev decreases-loop : tie.decreases-loop
-decreases-loop end places held low₀ k₀ low k = held - k
+abbrev decreases-loop-k : tie.decreases-loop-k
+decreases-loop-k end places held low₀ k₀ low k = held - k
 
-long : (c : tie.Start invariant-loop decreases-loop) → length (entries c.args.given) ≡ c.args.given.held
+long : (c : tie.Start invariant-loop-k decreases-loop-k) → length (entries c.args.given) ≡ c.args.given.held
 long c = entries_long c.args.given (search length_mapped) c.requires
 
 -- the place that is tested is that of the list
-module _ (c : tie.After-place-left invariant-loop decreases-loop) where
-  tested : let s = c.before.before.before.before.before.before in
-      let l = c.before.before.before.loop in
-      c.place-left.result ≡ place_left s.args.end l.low (get_or (entries s.args.given) l.k (place 0 0))
+module _ (c : tie.After-place_left invariant-loop-k decreases-loop-k) where
+  tested : let l = c.loop-k in
+      c.place_left.result ≡ place_left c.args.end l.low (get_or (entries c.args.given) l.k (place 0 0))
   tested =
-      let s = c.before.before.before.before.before.before in
-      let l = c.before.before.before.loop in
-      let r = s.args.given in
-      c.place-left.ensures ∙ ap (place_left s.args.end l.low) (sym (get_or-take r.held r.places l.k (place 0 0) (omega arith)))
+      let l = c.loop-k in
+      let r = c.args.given in
+      c.place_left.ensures ∙ ap (place_left c.args.end l.low) (sym (get_or-take r.held r.places l.k (place 0 0) (omega arith)))
 
-returns : tie.Need-returns invariant-loop decreases-loop
+returns : tie.Need-returns-then-not-place_left invariant-loop-k decreases-loop-k
 returns c =
-    let t = c.before in
-    let s = t.before.before.before.before.before.before in
-    let l = t.before.before.before.loop in
-    places_stop s.args.end l.low (entries s.args.given) l.k (place 0 0) _ (omega (arith, long s)) l.invariant.1
-    (sym (tested t) ∙ not-true _ c.if1.true)
+    let l = c.loop-k in
+    places_stop c.args.end l.low (entries c.args.given) l.k (place 0 0) _ (omega (arith, long c.before.before.before.before.before.before.before)) l.invariant.1
+    (sym (tested c.before) ∙ c.if-not-place_left.true)
 
-add_low : tie.Need-overflow-add-low invariant-loop decreases-loop
+add_low : tie.Need-overflow_add-low invariant-loop-k decreases-loop-k
 add_low c =
-    let t = c.before.before in
-    let s = t.before.before.before.before.before.before in
-    omega (arith, (place_kept _ _ _ (sym t.place-left.ensures ∙ not-false _ c.before.if1.false)).known)
+    omega (arith, (place_kept _ _ _ (sym c.place_left.ensures ∙ c.if-not-place_left.false)).known)
 
-loop-again : tie.Need-loop-preserved invariant-loop decreases-loop
+loop-again : tie.Need-loop-k-preserved invariant-loop-k decreases-loop-k
 loop-again c =
-    let t = c.before.before in
-    let s = t.before.before.before.before.before.before in
-    let l = t.before.before.before.loop in
-    let r = s.args.given in
+    let l = c.loop-k in
+    let r = c.args.given in
     let here = get_or-take r.held r.places l.k (place 0 0) (omega arith) in (
       omega arith,
-      places_next s.args.end l.low (entries r) l.k (place 0 0) _ (omega (arith, long s)) l.invariant.1
-          (sym (tested t) ∙ not-false _ c.before.if1.false)
-          ∙ ap (λ p. places_left s.args.end (p.area + 1) (drop (l.k + 1) (entries r))) here,
+      places_next c.args.end l.low (entries r) l.k (place 0 0) _ (omega (arith, long c.before.before.before.before.before.before.before.before)) l.invariant.1
+          (sym (tested c.before.before) ∙ c.if-not-place_left.false)
+          ∙ ap (λ p. places_left c.args.end (p.area + 1) (drop (l.k + 1) (entries r))) here,
     )
 
-returns-2 : tie.Need-returns-2 invariant-loop decreases-loop
+returns-2 : tie.Need-returns invariant-loop-k decreases-loop-k
 returns-2 c =
-    let s = c.before.before.before.before in
-    let l = c.before.loop in
-    places_done s.args.end l.low (entries s.args.given) l.k _ (omega (arith, long s)) l.invariant.1
+    let l = c.loop-k in
+    places_done c.args.end l.low (entries c.args.given) l.k _ (omega (arith, long c.before.before.before.before)) l.invariant.1
 
-pub places-left-spec : {M : Type 1} → statement M
-places-left-spec =
-    tie.close (tie.spec invariant-loop decreases-loop (λ c. search rules) (λ c. (omega arith, refl)) (λ c. omega arith) (λ c. omega arith) (λ c κs. search rules)
-    returns add_low (λ c. omega arith) (λ c. omega arith) loop-again returns-2)
+pub places_left_spec : {M : Type 1} → statement M
+places_left_spec =
+    tie.close (tie.spec invariant-loop-k decreases-loop-k (λ c. search rules) (λ c. (omega arith, refl)) (λ c. omega arith) (λ c. omega arith) (λ c κs. search rules) returns add_low (λ c. omega arith) (λ c. omega arith) loop-again returns-2)

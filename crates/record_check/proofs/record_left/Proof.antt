@@ -9,47 +9,43 @@ use Rattle.record_check.proofs.Left.{last_kept}
 use Rattle.record_check.proofs.record_left.Statement.{statement}
 use Rattle.record_check.proofs.record_left.Tie as tie
 
-good-day : (c : tie.Else2) → last_left c.before.before.before.before.args.given ≡ true
-good-day c = sym c.before.last-left.ensures ∙ not-false _ c.if2.false
+good-day : (c : tie.Else-not-last_left) → last_left c.args.given ≡ true
+good-day c = sym c.last_left.ensures ∙ c.if-not-last_left.false
 
-tested : (c : tie.After-places-left) →
-    let r = c.before.before.before.before.before.before.before.args.given in
-    places_left (marks_end (day_number r.last)) 1 (entries r) ≡ c.places-left.result
+tested : (c : tie.After-places_left) →
+    let r = c.args.given in
+    places_left (marks_end (day_number r.last)) 1 (entries r) ≡ c.places_left.result
 tested c =
-    let r = c.before.before.before.before.before.before.before.args.given in
-    sym (c.places-left.ensures ∙ ap (λ end. places_left end 1 (entries r))
-    (c.before.marks-end.ensures ∙ ap marks_end c.before.before.last-number.ensures))
+    let r = c.args.given in
+    sym (c.places_left.ensures ∙ ap (λ end. places_left end 1 (entries r))
+    (c.marks_end.ensures ∙ ap marks_end c.last_number.ensures))
 
-returns : tie.Need-returns
+returns : tie.Need-returns-then-given
 unfolding record_left
-returns c = simp (lt-leb _ _ c.if1.true)
+returns c = simp (lt-leb _ _ c.if-given.true)
 
-returns-2 : tie.Need-returns-2
+returns-2 : tie.Need-returns-then-not-last_left
 unfolding record_left
-returns-2 c = simp (le-leb _ _ c.before.before.if1.false, sym c.before.last-left.ensures ∙ not-true _ c.if2.true)
+returns-2 c = simp (le-leb _ _ c.if-given.false, sym c.last_left.ensures ∙ c.if-not-last_left.true)
 
-last-number-requires : tie.Need-last-number-requires
-last-number-requires c κs = (last_kept c.before.before.before.before.args.given (good-day c)).real
+last-number-requires : tie.Need-last_number-requires
+last-number-requires c κs = (last_kept c.args.given (good-day c)).real
 
-returns-3 : tie.Need-returns-3
+returns-3 : tie.Need-returns-then-not-places_left
 unfolding record_left
 returns-3 c =
-    let e = c.before.before.before.before in
-    simp (le-leb _ _ e.before.before.if1.false, good-day e, tested c.before, not-true c.before.places-left.result c.if3.true)
+    simp (le-leb _ _ c.if-given.false, good-day c.before.before.before.before, tested c.before, c.if-not-places_left.true)
 
-returns-4 : tie.Need-returns-4
+returns-4 : tie.Need-returns
 unfolding record_left
 returns-4 c =
-    let e = c.before.before.before.before.before in
     simp (
-      le-leb _ _ e.before.before.if1.false,
-      good-day e,
+      le-leb _ _ c.if-given.false,
+      good-day c.before.before.before.before.before,
       tested c.before.before,
-      not-false c.before.before.places-left.result
-          c.before.if3.false,
-    ) c.unused-empty.ensures
+      c.if-not-places_left.false,
+    ) c.unused_empty.ensures
 
-pub record-left-spec : {M : Type 1} → statement M
-record-left-spec =
-    tie.close (tie.spec (λ c. search rules) returns (λ c κs. search rules) returns-2 last-number-requires (λ c κs. search rules)
-    (λ c κs. search rules) returns-3 (λ c κs. search rules) returns-4)
+pub record_left_spec : {M : Type 1} → statement M
+record_left_spec =
+    tie.close (tie.spec (λ c. search rules) returns (λ c κs. search rules) returns-2 last-number-requires (λ c κs. search rules) (λ c κs. search rules) returns-3 (λ c κs. search rules) returns-4)

@@ -12,40 +12,34 @@ use Rattle.record_check.proofs.Left.{unused_stop, unused_next, unused_done}
 use Rattle.record_check.proofs.unused_empty.Statement.{statement}
 use Rattle.record_check.proofs.unused_empty.Tie as tie
 
-abbrev invariant-loop : tie.invariant-loop
-invariant-loop places k₀ k = (k ≤ most_held) × (unused_empty (drop k₀ places) ≡ unused_empty (drop k places))
+abbrev invariant-loop-k : tie.invariant-loop-k
+invariant-loop-k places k₀ k = (k ≤ most_held) × (unused_empty (drop k₀ places) ≡ unused_empty (drop k places))
 
-abbrev decreases-loop : tie.decreases-loop
-decreases-loop places k₀ k = most_held - k
+abbrev decreases-loop-k : tie.decreases-loop-k
+decreases-loop-k places k₀ k = most_held - k
 
-full : (c : tie.Start invariant-loop decreases-loop) → length c.args.given.places ≡ most_held
+full : (c : tie.Start invariant-loop-k decreases-loop-k) → length c.args.given.places ≡ most_held
 full c = search length_mapped
 
-returns : tie.Need-returns invariant-loop decreases-loop
+returns : tie.Need-returns-then-not-place_empty invariant-loop-k decreases-loop-k
 returns c =
-    let t = c.before in
-    let s = t.before.before.before.before.before.before in
-    let l = t.before.before.before.loop in
-    unused_stop s.args.given.places l.k (place 0 0) _ (omega (arith, full s)) l.invariant.1
-    (sym t.place-empty.ensures ∙ not-true _ c.if1.true)
+    let l = c.loop-k in
+    unused_stop c.args.given.places l.k (place 0 0) _ (omega (arith, full c.before.before.before.before.before.before.before)) l.invariant.1
+    (sym c.place_empty.ensures ∙ c.if-not-place_empty.true)
 
-loop-again : tie.Need-loop-preserved invariant-loop decreases-loop
+loop-again : tie.Need-loop-k-preserved invariant-loop-k decreases-loop-k
 loop-again c =
-    let t = c.before in
-    let s = t.before.before.before.before.before.before in
-    let l = t.before.before.before.loop in (
+    let l = c.loop-k in (
       omega arith,
-      unused_next s.args.given.places l.k (place 0 0) _ (omega (arith, full s)) l.invariant.1
-          (sym t.place-empty.ensures ∙ not-false _ c.if1.false),
+      unused_next c.args.given.places l.k (place 0 0) _ (omega (arith, full c.before.before.before.before.before.before.before)) l.invariant.1
+          (sym c.place_empty.ensures ∙ c.if-not-place_empty.false),
     )
 
-returns-2 : tie.Need-returns-2 invariant-loop decreases-loop
+returns-2 : tie.Need-returns invariant-loop-k decreases-loop-k
 returns-2 c =
-    let s = c.before.before.before.before in
-    let l = c.before.loop in
-    unused_done s.args.given.places l.k _ (omega (arith, full s)) l.invariant.1
+    let l = c.loop-k in
+    unused_done c.args.given.places l.k _ (omega (arith, full c.before.before.before.before)) l.invariant.1
 
-pub unused-empty-spec : {M : Type 1} → statement M
-unused-empty-spec =
-    tie.close (tie.spec invariant-loop decreases-loop (λ c. search rules) (λ c. (omega (arith, c.before.before.requires), refl)) (λ c. omega arith)
-    (λ c. omega arith) (λ c κs. search rules) returns (λ c. omega arith) (λ c. omega arith) loop-again returns-2)
+pub unused_empty_spec : {M : Type 1} → statement M
+unused_empty_spec =
+    tie.close (tie.spec invariant-loop-k decreases-loop-k (λ c. search rules) (λ c. (omega (arith, c.requires), refl)) (λ c. omega arith) (λ c. omega arith) (λ c κs. search rules) returns (λ c. omega arith) (λ c. omega arith) loop-again returns-2)

@@ -41,13 +41,13 @@ up-to-requires c κs =
     (c.rates_of-rates.ensures, (omega (arith, next_within v (next c.before)), (v.few, v.small)))
 
 sub-charges : tie.Need-overflow_sub-charges invariant-loop-i decreases-loop-i
-sub-charges c = charge_fits c.loop-i.invariant.0 (next c.before.before) (got w64 c.up_to_lem.type_inv c.up_to_lem.ensures)
+sub-charges c = charge_fits c.loop-i.invariant.0 (next c.before.before) (got w64 c.up_to-next.type_inv c.up_to-next.ensures)
 
 loop-again : tie.Need-loop-i-preserved invariant-loop-i decreases-loop-i
 loop-again c =
     let l = c.loop-i in
     let v = l.invariant.0 in
-    let e = got w64 c.up_to_lem.type_inv c.up_to_lem.ensures in (
+    let e = got w64 c.up_to-next.type_inv c.up_to-next.ensures in (
       shared_step v (next c.before.before) e,
       fill_step _ (rw (drop_next _ l.i (pos 0) (charge_place v (next c.before.before)), ← charge_stored v (next c.before.before) e) at l.invariant.1)
           (omega (arith, l.invariant.1.kept)),

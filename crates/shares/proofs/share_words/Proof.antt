@@ -50,13 +50,13 @@ up-to-requires c κs =
 
 sub-put-number : tie.Need-overflow_sub-next invariant-loop-i decreases-loop-i
 sub-put-number c =
-    charge_fits c.loop-i.invariant.0 (next c.before) (got w64 c.up_to_lem.type_inv c.up_to_lem.ensures)
+    charge_fits c.loop-i.invariant.0 (next c.before) (got w64 c.up_to-next.type_inv c.up_to-next.ensures)
 
 loop-again : tie.Need-loop-i-preserved invariant-loop-i decreases-loop-i
 loop-again c =
     let l = c.loop-i in
     let v = l.invariant.0 in
-    let e = got w64 c.up_to_lem.type_inv c.up_to_lem.ensures in (
+    let e = got w64 c.up_to-next.type_inv c.up_to-next.ensures in (
       shared_step v (next c.before.before.before.before.before) e,
       encoded_step _ l.i _ _ l.charges _ (charge_place v (next c.before.before.before.before.before)) (charge_stored v (next c.before.before.before.before.before) e) l.invariant.1 c.put_number.ensures,
       omega arith,

@@ -19,9 +19,6 @@ use Rattle.shares.proofs.ByRates.{by_rates}
 use Rattle.shares.proofs.up_to.Statement.{statement}
 use Rattle.shares.proofs.up_to.Tie as tie
 
-abbrev start : tie.Else-rates → tie.Start
-start c = c.before.before.before.before
-
 half_by_zero : (a : ℕ) → half_up a 0 ≡ 0
 half_by_zero a = rw (mul-zero 2, div-zero)
 
@@ -54,7 +51,6 @@ result_fits s =
     within w64 _ (omega (arith, product-fits s, abs_round (z *ℤ pos s.args.running) s.args.whole, abs_mul z (pos s.args.running)))
 
 -- back from the rates to the start
-
 rates-are : (c : tie.Else-rates) → let s = c.args in
     s.rates ≡ rates_of s.amount s.whole
 rates-are c = c.requires.0 c.if-rates.false
@@ -72,8 +68,7 @@ next-is c =
 next_small : (c : tie.After-nearest-next) → c.nearest-next.result < 2 ^ 63
 unfolding round_div
 next_small c =
-    let s = start c.before in
-    omega (arith, next-is c, product-fits s, abs_round (pos (nat_abs s.args.amount * s.args.running)) s.args.whole)
+    omega (arith, next-is c, product-fits c.before.before.before.before.before, abs_round (pos (nat_abs c.args.amount * c.args.running)) c.args.whole)
 
 next-back : (c : tie.After-nearest-next) → let s = c.args in
     to_z w64 c.nearest-next.result ≡ pos (half_up (nat_abs s.amount * s.running) s.whole)
@@ -82,8 +77,7 @@ next-back c = to_z_pos w64 _ (next_small c) ∙ ap pos (next-is c)
 turned : (c : tie.Then-amount-lt0) → let s = c.args in
     pos 0 -ℤ to_z w64 c.nearest-next.result ≡ up_to s.amount s.whole s.running
 turned c =
-    let s = start c.before.before in
-    rw (next-back c.before) (below s.args.amount s.args.whole s.args.running (rw (to_z-of_z w64 _ s.fits.amount) at c.if-amount-lt0.true))
+    rw (next-back c.before) (below c.args.amount c.args.whole c.args.running (rw (to_z-of_z w64 _ c.ranges.amount) at c.if-amount-lt0.true))
 
 returns : tie.Need-returns-then-whole-eq0
 returns c = rw (c.if-whole-eq0.true, by_zero)
@@ -114,10 +108,9 @@ returns-4 c =
 nearest-requires : tie.Need-nearest-next-requires
 unfolding rates_of
 nearest-requires c κs =
-    let s = start c in
-    let a = nat_abs s.args.amount in
-    let t = s.args.whole in
-    let k = s.pre.1 in
+    let a = nat_abs c.args.amount in
+    let t = c.args.whole in
+    let k = c.requires.1 in
     let whole = some c in
     let cents : a / t * t < 2 ^ 63 = omega (arith, div-mul-le_self a t, le-mul_of_pos_right a whole, k.1.1) in
     ((whole, (k.1.0, k.0)), rw (rates-are c) (cents, (mod-lt a whole, refl)))
@@ -133,8 +126,7 @@ returns-5 c = rw (turned c) (to_z-of_z w64 _ (result_fits c.before.before.before
 
 returns-6 : tie.Need-returns
 returns-6 c =
-    let s = start c.before.before in
-    next-back c.before ∙ above s.args.amount s.args.whole s.args.running (rw (to_z-of_z w64 _ s.fits.amount) at c.if-amount-lt0.false)
+    next-back c.before ∙ above c.args.amount c.args.whole c.args.running (rw (to_z-of_z w64 _ c.ranges.amount) at c.if-amount-lt0.false)
 
 pub up_to_spec : {M : Type 1} → statement M
 up_to_spec =

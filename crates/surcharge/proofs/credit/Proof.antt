@@ -12,13 +12,12 @@ use Rattle.surcharge.proofs.credit.Tie as tie
 
 over-400000-requires : tie.Need-over_400000-requires
 over-400000-requires c κs =
-    let s = c.before.before in
     rw c.at_market_price.ensures
-    (within w64 _ (omega (arith, at_market_small 4 s.args.most.0 s.args.price.0 (pos 4) s.requires.0 s.requires.1 (omega arith))))
+    (within w64 _ (omega (arith, at_market_small 4 c.args.most.0 c.args.price.0 (pos 4) c.requires.0 c.requires.1 (omega arith))))
 
 returns : tie.Need-returns-then-tier-eq0
 unfolding credit_of
-returns c = c.over_400000.ensures ∙ ap (λ z. z *ℤ pos 4) c.before.at_market_price.ensures ∙ simp (eq-eqb _ _ c.before.before.if-tier-eq0.true)
+returns c = c.over_400000.ensures ∙ ap (λ z. z *ℤ pos 4) c.at_market_price.ensures ∙ simp (eq-eqb _ _ c.if-tier-eq0.true)
 
 returns-2 : tie.Need-returns
 unfolding credit_of

@@ -15,8 +15,8 @@ same tier most e f = rw (e, f)
 returns : tie.Need-returns
 unfolding day_of
 returns c =
-    let e = c.before.surcharge-surcharge.ensures in
-    same _ _ e (c.surcharge_in_cents-shown.ensures ∙ ap (λ s. surcharge_in_cents s c.before.before.args.tier) e)
+    let e = c.surcharge-surcharge.ensures in
+    same _ _ e (c.surcharge_in_cents-shown.ensures ∙ ap (λ s. surcharge_in_cents s c.args.tier) e)
 
 pub day_of_spec : {M : Type 1} → statement M
 day_of_spec =

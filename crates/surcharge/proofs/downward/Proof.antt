@@ -14,8 +14,8 @@ returns c = simp (le-leb _ _ c.if-quantity-le-DOWNWARD_FLOOR.true)
 returns-2 : tie.Need-returns
 unfolding downward_of
 returns-2 c =
-    rounded_once at_most_zero _ c.rounded.ensures c.before.at_most_zero.ensures c.before.before.at_market_price.ensures
-    ∙ simp (lt-leb _ _ c.before.before.before.if-quantity-le-DOWNWARD_FLOOR.false)
+    rounded_once at_most_zero _ c.rounded.ensures c.at_most_zero.ensures c.at_market_price.ensures
+    ∙ simp (lt-leb _ _ c.if-quantity-le-DOWNWARD_FLOOR.false)
 
 pub downward_spec : {M : Type 1} → statement M
 downward_spec =

@@ -7,7 +7,7 @@ use Rattle.surcharge.proofs.greater_price.Tie as tie
 
 returns : tie.Need-returns-then-a-b
 returns c =
-    let s = c.before.before.before.before.before.args in
+    let s = c.args in
     let f : SFits w32 s.a.0 = search rules in
     let g : SFits w32 s.b.0 = search rules in
     let t = simp (to_z-of_z w32 _ f, to_z-of_z w32 _ g) at c.if-a-b.true in
@@ -15,7 +15,7 @@ returns c =
 
 returns-2 : tie.Need-returns
 returns-2 c =
-    let s = c.before.before.before.before.before.args in
+    let s = c.args in
     let f : SFits w32 s.a.0 = search rules in
     let g : SFits w32 s.b.0 = search rules in
     let t = simp (to_z-of_z w32 _ f, to_z-of_z w32 _ g) at c.if-a-b.false in

@@ -13,14 +13,11 @@ use Rattle.surcharge.proofs.Rounded.{rounded_once}
 use Rattle.surcharge.proofs.on_peak.Statement.{statement}
 use Rattle.surcharge.proofs.on_peak.Tie as tie
 
-abbrev start : tie.After-credit-credit → tie.Start
-start c = c.before.before.before.before
-
 -- S less the credit
 value : (c : tie.After-credit-credit) →
-    let s = (start c).args in
-    s.day.surcharge-1.0 -ℤ c.credit-credit.result.0 ≡ s.day.surcharge-1.0 -ℤ credit_of s.day.most.0 s.tier s.price.0
-value c = ap (λ z. (start c).args.day.surcharge-1.0 -ℤ z) c.credit-credit.ensures
+    let s = c.args in
+    s.day.surcharge.0 -ℤ c.credit-credit.result.0 ≡ s.day.surcharge.0 -ℤ credit_of s.day.most.0 s.tier s.price.0
+value c = ap (λ z. c.args.day.surcharge.0 -ℤ z) c.credit-credit.ensures
 
 returns : tie.Need-returns-then-day-le1
 unfolding on_peak_of credit_in_cents
@@ -28,22 +25,18 @@ returns c = simp (le-leb _ _ c.if-day-le1.true) (refl, refl)
 
 minus-requires : tie.Need-minus-requires
 minus-requires c κs =
-    let s = start c in
-    let a = s.args in
+    let a = c.args in
     let d = a.day in
-    let k = s.pre in
+    let k = c.requires in
     rw (value c)
-    (within w64 _ (omega (arith, difference_small d.most.0 k.0.most a.tier a.price.0 k.1 d.surcharge-1.0 k.0.surcharge-1)))
+    (within w64 _ (omega (arith, difference_small d.most.0 k.0.most a.tier a.price.0 k.1 d.surcharge.0 k.0.surcharge)))
 
 returns-2 : tie.Need-returns
 unfolding on_peak_of credit_in_cents
 returns-2 c =
-    let r = c.before in
-    let m = r.before.before in
-    let k = m.before in
-    simp (lt-leb _ _ k.before.before.if-day-le1.false) (
-      rounded_once at_least_zero _ r.rounded.ensures r.before.at_least_zero.ensures (m.minus.ensures ∙ value k),
-      c.rounded-2.ensures ∙ ap (λ z. round_div z 400000) k.credit-credit.ensures,
+    simp (lt-leb _ _ c.if-day-le1.false) (
+      rounded_once at_least_zero _ c.rounded.ensures c.at_least_zero.ensures (c.minus.ensures ∙ value c.before.before.before.before),
+      c.rounded-2.ensures ∙ ap (λ z. round_div z 400000) c.credit-credit.ensures,
     )
 
 pub on_peak_spec : {M : Type 1} → statement M

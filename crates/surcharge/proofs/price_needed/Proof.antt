@@ -6,4 +6,4 @@ use Rattle.surcharge.proofs.price_needed.Tie as tie
 
 pub price_needed_spec : {M : Type 1} → statement M
 price_needed_spec =
-    tie.close (tie.spec (λ c. search tests) (λ c. search (tests, not-true c.before.before.args.peak c.if-not-peak.true, rules)) (λ c. search (tests, not-false c.before.before.before.args.peak c.before.if-not-peak.false, rules)) (λ c. search (tests, not-false c.before.before.before.args.peak c.before.if-not-peak.false, rules)))
+    tie.close (tie.spec (λ c. search tests) (λ c. search (tests, c.if-not-peak.true, rules)) (λ c. search (tests, c.if-not-peak.false, rules)) (λ c. search (tests, c.if-not-peak.false, rules)))

@@ -8,14 +8,13 @@ use Rattle.surcharge.proofs.scaled_multiplier.Statement.{statement}
 use Rattle.surcharge.proofs.scaled_multiplier.Tie as tie
 
 value : (c : tie.After-quarters_of) →
-    let s = c.before.args in
+    let s = c.args in
     c.quarters_of.result * (100 + s.terms.days) ≡ scaled_multiplier s.terms s.tier
-value c = ap (λ m. m * (100 + c.before.args.terms.days)) c.quarters_of.ensures
+value c = ap (λ m. m * (100 + c.args.terms.days)) c.quarters_of.ensures
 
 mul-result : tie.Need-overflow_mul-result
 mul-result c =
-    let s = c.before.before in
-    rw (value c.before) (omega (arith, multiplier_small s.args.terms s.requires s.args.tier))
+    rw (value c.before) (omega (arith, multiplier_small c.args.terms c.requires c.args.tier))
 
 returns : tie.Need-returns
 returns c = value c.before

@@ -11,7 +11,7 @@ returns c = simp (le-leb _ _ c.if-tier-le1.true)
 
 returns-2 : tie.Need-returns
 unfolding surcharge_in_cents
-returns-2 c = c.rounded.ensures ∙ simp (lt-leb _ _ c.before.if-tier-le1.false)
+returns-2 c = c.rounded.ensures ∙ simp (lt-leb _ _ c.if-tier-le1.false)
 
 pub surcharge_in_cents_spec : {M : Type 1} → statement M
 surcharge_in_cents_spec =

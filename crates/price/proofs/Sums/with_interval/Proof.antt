@@ -34,7 +34,7 @@ unfolding with_raised
 returns c =
     let s = c.args in
     rw c.present.ensures
-    (ap₂ (λ v q. record { c = record { 0 = v }; c = record { 0 = q }; count = s.self.count + cond (missing s.price) 0 1 })
+    (ap₂ (λ v q. record { value = record { 0 = v }; quantity = record { 0 = q }; count = s.self.count + cond (missing s.price) 0 1 })
     (c.plus-self.ensures ∙ ap (λ z. s.self.value.0 + z) (product c.before.before.before.before.before))
     (c.plus-self-2.ensures ∙ ap (λ z. s.self.quantity.0 + z) c.counted.ensures))
 

@@ -1,5 +1,6 @@
 // The amounts of an area's hours, read from its body: the facts of its day, the amounts of an hour, and what a needed price refuses.
 #![tactic(auto)]
+
 ghost use Rattle.std.specs.Prelude.{◌≡◌, ◌+◌, ◌*◌, ◌≤◌, ◌<◌, max, ◌+ℤ◌, length};
 ghost use Rattle.words.specs.Word.{word_at, signed_of};
 ghost use Rattle.limits.specs.Ranges.{proved_points};

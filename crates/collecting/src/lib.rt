@@ -1,5 +1,6 @@
 // What the hours of an area come to, upward before downward: the amounts that are collected from it, and the basis that counts where it passes.
 #![tactic(auto)]
+
 ghost use Rattle.std.specs.Prelude.{◌≡◌, cond, ◌&&◌, ◌++◌, ◌≤◌, eqb, ◌+ℤ◌, length, drop};
 ghost use Rattle.limits.specs.Ranges.{day_hours, day_payments, proved_points};
 ghost use Rattle.body.specs.Kept.{Sound};

@@ -1,5 +1,6 @@
 // Whether a day is marked for an area: flag 1, and an hour of tier 2 or 3, peak or not.
 #![tactic(auto)]
+
 ghost use Rattle.std.specs.Prelude.{◌≡◌};
 ghost use Rattle.limits.specs.Ranges.{proved_points, day_hours};
 ghost use Rattle.body.specs.Kept.{Sound};

@@ -1,6 +1,7 @@
 // Pays collected amounts out, column by column of a table: n rows, one for each area, of a number for each hour and direction, and behind them a row for the rests.
 // At first the rows hold what was collected from each area, and then what each is paid.
 #![tactic(auto)]
+
 ghost use Rattle.std.specs.Prelude.{true, ◌≡◌, ℕ, ◌+◌, ◌*◌, ◌≤◌, ◌<◌, ◌^◌, pos, nat_abs, length, take, replicate};
 ghost use Rattle.exact.specs.Total.{total};
 ghost use Rattle.limits.specs.Ranges.{day_payments, most_demand};

@@ -1,5 +1,6 @@
 // The sharing call: an amount shared over a lent table of rows, which is checked first.
 #![tactic(auto)]
+
 ghost use Rattle.std.specs.Prelude.{◌≡◌, min, take};
 ghost use Rattle.sharing.specs.Rows.{SharedRows};
 ghost use Rattle.sharing.specs.Columns.{table_of, SharedTable};

@@ -9,18 +9,19 @@ use Rattle.amounts.proofs.amount_of.Tie as tie
 
 plus-requires : tie.Need-plus-requires
 plus-requires c κs =
-    let a = c.before.before.before.args.amounts in
-    let r = c.before.before.before.requires in
+    let a = c.args.amounts in
+    let r = c.requires in
     within w64 _ (omega (arith, abs_add a.on.0 a.off.0))
 
 plus-requires-2 : tie.Need-plus-requires-2
 plus-requires-2 c κs =
-    let a = c.before.before.before.before.args.amounts in
-    let r = c.before.before.before.before.requires in
+    let a = c.args.amounts in
+    let r = c.requires in
     rw c.plus.ensures (within w64 _ (omega (arith, abs_add a.on.0 a.off.0, abs_add (a.on.0 +ℤ a.off.0) a.down.0)))
 
 returns : tie.Need-returns
-returns c = c.plus2.ensures ∙ ap (λ z. z +ℤ c.before.before.before.before.before.args.amounts.down.0) c.before.plus.ensures
+returns c = c.plus-2.ensures ∙ ap (λ z. z +ℤ c.args.amounts.down.0) c.plus.ensures
 
-pub amount-of-spec : {M : Type 1} → statement M
-amount-of-spec = tie.close (tie.spec plus-requires plus-requires-2 returns)
+pub amount_of_spec : {M : Type 1} → statement M
+amount_of_spec =
+    tie.close (tie.spec plus-requires plus-requires-2 returns)

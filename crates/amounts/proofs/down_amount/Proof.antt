@@ -10,9 +10,9 @@ use Rattle.amounts.proofs.down_amount.Tie as tie
 returns : tie.Need-returns
 returns c =
     c.downward.ensures
-    ∙ ap₂ (downward_of c.before.before.before.before.before.args.terms) c.before.downward-quantity.ensures
-    (got w32 c.before.before.signed.type-inv (c.before.before.signed.ensures ∙ ap signed_of c.before.before.before.word.ensures))
+    ∙ ap₂ (downward_of c.args.terms) c.downward_quantity.ensures
+    (got w32 c.signed.type_inv (c.signed.ensures ∙ ap signed_of c.word.ensures))
 
-pub down-amount-spec : {M : Type 1} → statement M
-down-amount-spec =
+pub down_amount_spec : {M : Type 1} → statement M
+down_amount_spec =
     tie.close (tie.spec (λ c. search rules) (λ c κs. search rules) (λ c κs. search rules) (λ c κs. search rules) (λ c κs. search rules) returns)

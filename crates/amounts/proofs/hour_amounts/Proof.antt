@@ -19,52 +19,39 @@ price-small s =
     rw s.requires.1 (needed_small s.args.body.now k.sound s.args.h k.below s.args.terms)
 
 -- back from the facts of the hour to the start
-abbrev start : tie.After-hour-facts → tie.Start
-start c = c.before.before.before.before.before
+flag_is : (c : tie.After-hour_facts-facts) → flag_of c.args.body.now ≡ 1
+flag_is c = sym c.word-flag.ensures ∙ c.if-flag-ne1.false
 
-flag_is : (c : tie.After-hour-facts) → flag_of (start c).args.body.now ≡ 1
-flag_is c = let left = c.before.before in sym left.before.word.ensures ∙ left.if1.false
+word-requires : tie.Need-word-flag-requires
+word-requires c κs = let r = (hour_there c.requires.0).room in omega arith
 
-word-requires : tie.Need-word-requires
-word-requires c κs = let r = (hour_there c.before.requires.0).room in omega arith
+returns : tie.Need-returns-then-flag-ne1
+returns c = without_flag _ _ _ (λ q. c.if-flag-ne1.true (c.word-flag.ensures ∙ q))
 
-returns : tie.Need-returns
-returns c = without_flag _ _ _ (λ q. c.if1.true (c.before.word.ensures ∙ q))
+down-amount-requires : tie.Need-down_amount-down-requires
+down-amount-requires c κs = hour_there c.requires.0
 
-down-amount-requires : tie.Need-down-amount-requires
-down-amount-requires c κs = hour_there c.before.before.before.requires.0
+hour-facts-requires : tie.Need-hour_facts-facts-requires
+hour-facts-requires c κs = hour_there c.requires.0
 
-hour-facts-requires : tie.Need-hour-facts-requires
-hour-facts-requires c κs = hour_there c.before.before.before.before.requires.0
+on-peak-requires : tie.Need-on_peak-on_peak-requires
+on-peak-requires c κs = (day_ranged c.requires.0, price-small c.before.before.before.before.before.before.before.before)
 
-on-peak-requires : tie.Need-on-peak-requires
-on-peak-requires c κs = let s = start c.before.before.before in (day_ranged s.pre.0, price-small s)
-
-returns-2 : tie.Need-returns-2
+returns-2 : tie.Need-returns-then-peak_hour
 returns-2 c =
-    let o = c.before.before.before in
-    let p = o.before.before in
-    let f = p.before.before in
-    let s = start f in
-    in_peak s.pre.0 (flag_is f) s.pre.1 f.hour-facts.ensures f.before.down-amount.ensures
-    (sym p.peak-hour.ensures ∙ o.before.if2.true) o.on_peak_lem.ensures
+    in_peak c.requires.0 (flag_is c.before.before.before.before.before.before.before) c.requires.1 c.hour_facts-facts.ensures c.down_amount-down.ensures
+    (sym c.peak_hour.ensures ∙ c.if-peak_hour.true) c.on_peak-on_peak.ensures
 
-off-peak-requires : tie.Need-off-peak-requires
+off-peak-requires : tie.Need-off_peak-requires
 unfolding hour_facts
 off-peak-requires c κs =
-    let f = c.before.before.before in
-    let s = start f in
-    (s.pre.0.kept, (rw f.hour-facts.ensures (upward_small _ _ (hour_there s.pre.0)), price-small s))
+    (c.requires.0.kept, (rw c.hour_facts-facts.ensures (upward_small _ _ (hour_there c.requires.0)), price-small c.before.before.before.before.before.before.before.before))
 
-returns-3 : tie.Need-returns-3
+returns-3 : tie.Need-returns
 returns-3 c =
-    let p = c.before.before in
-    let f = p.before.before in
-    let s = start f in
-    outside_peak s.pre.0 (flag_is f) s.pre.1 f.hour-facts.ensures f.before.down-amount.ensures
-    (sym p.peak-hour.ensures ∙ c.before.if2.false) c.off_peak_lem.ensures
+    outside_peak c.requires.0 (flag_is c.before.before.before.before) c.requires.1 c.hour_facts-facts.ensures c.down_amount-down.ensures
+    (sym c.peak_hour.ensures ∙ c.if-peak_hour.false) c.off_peak.ensures
 
-pub hour-amounts-spec : {M : Type 1} → statement M
-hour-amounts-spec =
-    tie.close (tie.spec word-requires returns down-amount-requires hour-facts-requires (λ c κs. search rules) on-peak-requires returns-2
-    off-peak-requires returns-3)
+pub hour_amounts_spec : {M : Type 1} → statement M
+hour_amounts_spec =
+    tie.close (tie.spec word-requires returns down-amount-requires hour-facts-requires (λ c κs. search rules) on-peak-requires returns-2 off-peak-requires returns-3)

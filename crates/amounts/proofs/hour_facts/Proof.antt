@@ -12,19 +12,20 @@ use Rattle.amounts.proofs.hour_facts.Tie as tie
 made : ℕ → ℕ → Hour
 made upward tier = record { upward = record { 0 = upward }; tier = tier }
 
-returns : tie.Need-returns
+returns : tie.Need-returns-then-not-counts
 unfolding hour_facts
-returns c = rw (not-true c.before.before.args.counts c.if1.true)
+returns c = rw c.if-not-counts.true
 
-tier-requires : tie.Need-tier-requires
-tier-requires c κs = let s = c.before.before.before.before in rw c.before.upward.ensures (upward_small s.args.body.now s.args.at s.requires)
+tier-requires : tie.Need-tier-tier-requires
+tier-requires c κs = rw c.upward-upward.ensures (upward_small c.args.body.now c.args.at c.requires)
 
-returns-2 : tie.Need-returns-2
+returns-2 : tie.Need-returns
 unfolding hour_facts made
 returns-2 c =
-    let s = c.before.before.before.before.before.args in
-    rw (not-false s.counts c.before.before.before.if1.false)
-    (ap₂ made c.before.before.upward.ensures (c.tier.ensures ∙ ap₂ tier_of c.before.before.upward.ensures c.before.word.ensures))
+    let s = c.args in
+    rw c.if-not-counts.false
+    (ap₂ made c.upward-upward.ensures (c.tier-tier.ensures ∙ ap₂ tier_of c.upward-upward.ensures c.word.ensures))
 
-pub hour-facts-spec : {M : Type 1} → statement M
-hour-facts-spec = tie.close (tie.spec returns (λ c κs. search rules) (λ c. search rules) (λ c κs. search rules) tier-requires returns-2)
+pub hour_facts_spec : {M : Type 1} → statement M
+hour_facts_spec =
+    tie.close (tie.spec returns (λ c κs. search rules) (λ c. search rules) (λ c κs. search rules) tier-requires returns-2)

@@ -11,19 +11,17 @@ use Rattle.amounts.proofs.hour_price.Tie as tie
 size : (s : tie.Start) → let a = s.args in 4 * a.from + 96 * a.load - 4 * a.from ≡ 4 * (24 * a.load)
 size s = omega arith
 
-average-price-requires : tie.Need-average-price-requires
+average-price-requires : tie.Need-average_price-requires
 average-price-requires c κs =
-    let s = c.before.before in
-    let b = s.args.body.now in
-    let n = 4 * (24 * s.args.load) in
-    let m = part_length b (4 * s.args.from) n (omega (arith, s.requires.room)) in
-    rw (size s) ((omega (arith, s.requires.few), omega (arith, m)), rw s.requires.load_is s.requires.ranged)
+    let b = c.args.body.now in
+    let n = 4 * (24 * c.args.load) in
+    let m = part_length b (4 * c.args.from) n (omega (arith, c.requires.room)) in
+    rw (size c.before.before) ((omega (arith, c.requires.few), omega (arith, m)), rw c.requires.load_is c.requires.ranged)
 
 returns : tie.Need-returns
 unfolding price_from
-returns c = let s = c.before.before.before in c.average-price.ensures ∙ rw (size s, ← s.requires.load_is)
+returns c = c.average_price.ensures ∙ rw (size c.before.before.before, ← c.requires.load_is)
 
-pub hour-price-spec : {M : Type 1} → statement M
-hour-price-spec =
-    tie.close (tie.spec (λ c. search rules) (λ c. search rules) (λ c. search rules) (λ c. search rules) (λ c. search rules) (λ c. search rules)
-    (λ c. search rules) average-price-requires returns)
+pub hour_price_spec : {M : Type 1} → statement M
+hour_price_spec =
+    tie.close (tie.spec (λ c. search rules) (λ c. search rules) (λ c. search rules) (λ c. search rules) (λ c. search rules) (λ c. search rules) (λ c. search rules) average-price-requires returns)

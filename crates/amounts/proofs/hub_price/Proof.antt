@@ -11,12 +11,12 @@ use Rattle.amounts.proofs.hub_price.Tie as tie
 returns : tie.Need-returns
 unfolding hub_price
 returns c =
-    c.greater-price.ensures
+    c.greater_price.ensures
     ∙ ap₂ greater_price
-    (got w32 c.before.before.before.signed.type-inv
-    (c.before.before.before.signed.ensures ∙ ap signed_of c.before.before.before.before.word.ensures))
-    (got w32 c.before.signed2.type-inv (c.before.signed2.ensures ∙ ap signed_of c.before.before.word2.ensures))
+    (got w32 c.signed.type_inv
+    (c.signed.ensures ∙ ap signed_of c.word.ensures))
+    (got w32 c.signed-2.type_inv (c.signed-2.ensures ∙ ap signed_of c.word-2.ensures))
 
-pub hub-price-spec : {M : Type 1} → statement M
-hub-price-spec =
+pub hub_price_spec : {M : Type 1} → statement M
+hub_price_spec =
     tie.close (tie.spec (λ c κs. search rules) (λ c κs. search rules) (λ c κs. search rules) (λ c κs. search rules) (λ c κs. search rules) returns)

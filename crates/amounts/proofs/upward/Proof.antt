@@ -7,14 +7,13 @@ use Rattle.amounts.proofs.upward.Statement.{statement}
 use Rattle.amounts.proofs.upward.Tie as tie
 
 -- each of the four words
-small : (c : tie.After-word4)
-    → DeficiencyKept c.before.before.before.word.result × DeficiencyKept c.before.before.word2.result
-    × DeficiencyKept c.before.word3.result
-    × DeficiencyKept c.word4.result
+small : (c : tie.After-word-4)
+    → DeficiencyKept c.word.result × DeficiencyKept c.word-2.result
+    × DeficiencyKept c.word-3.result
+    × DeficiencyKept c.word-4.result
 small c =
-    let s = c.before.before.before.before.before in
-    let d = s.requires.deficiency in
-    let first = first_small s.args.body.now s.args.at s.requires in
+    let d = c.requires.deficiency in
+    let first = first_small c.args.body.now c.args.at c.requires in
     (omega (arith, first), omega (arith, d 1 (omega arith)), omega (arith, d 2 (omega arith)), omega (arith, d 3 (omega arith)))
 
 plus-requires : tie.Need-plus-requires
@@ -30,7 +29,6 @@ returns : tie.Need-returns
 unfolding upward_from
 returns c = omega arith
 
-pub upward-spec : {M : Type 1} → statement M
-upward-spec =
-    tie.close (tie.spec (λ c κs. search rules) (λ c. search rules) (λ c κs. search rules) (λ c. search rules) (λ c κs. search rules)
-    (λ c. search rules) (λ c κs. search rules) plus-requires plus-requires-2 plus-requires-3 returns)
+pub upward_spec : {M : Type 1} → statement M
+upward_spec =
+    tie.close (tie.spec (λ c κs. search rules) (λ c. search rules) (λ c κs. search rules) (λ c. search rules) (λ c κs. search rules) (λ c. search rules) (λ c κs. search rules) plus-requires plus-requires-2 plus-requires-3 returns)

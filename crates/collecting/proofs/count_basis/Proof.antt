@@ -24,97 +24,83 @@ counts : (body basis : List ℕ) (h : ℕ) (direction : Direction) {flag deficie
 unfolding basis_in
 counts body basis h direction f d is = is ∙ rw (f, d)
 
-abbrev invariant-loop : tie.invariant-loop
-invariant-loop body basis counted₀ flag load count at₀ h₀ counted at h =
+abbrev invariant-loop-h : tie.invariant-loop-h
+invariant-loop-h body basis counted₀ flag load count at₀ h₀ counted at h =
     (h ≤ day_hours) × (at ≡ hour_start load count h) × (load ≡ points_of body) × (count ≡ coordinators_of body) × (flag ≡ flag_of body)
     × Filling (day_of (basis_in body basis)) counted₀ counted (hours_from (basis_in body basis) h (day_hours - h)) (2 * h)
 
-abbrev decreases-loop : tie.decreases-loop
-decreases-loop body basis counted₀ flag load count at₀ h₀ counted at h = day_hours - h
+abbrev decreases-loop-h : tie.decreases-loop-h
+decreases-loop-h body basis counted₀ flag load count at₀ h₀ counted at h = day_hours - h
 
-abbrev start : tie.At-loop invariant-loop decreases-loop → tie.Start invariant-loop decreases-loop
-start c = c.before.before.before.before.before.before.before.before
+here : (c : tie.At-loop-h invariant-loop-h decreases-loop-h) → c.loop-h.at ≡ hour_at c.args.body.now c.loop-h.h
+here c = c.loop-h.invariant.1 ∙ ap₂ (λ load count. hour_start load count c.loop-h.h) c.loop-h.invariant.2 c.loop-h.invariant.3
 
-here : (c : tie.At-loop invariant-loop decreases-loop) → c.loop.at ≡ hour_at (start c).args.body.now c.loop.h
-here c = c.loop.invariant.1 ∙ ap₂ (λ load count. hour_start load count c.loop.h) c.loop.invariant.2 c.loop.invariant.3
+room : (c : tie.In-loop-h invariant-loop-h decreases-loop-h) → 2 * c.loop-h.h + 2 ≤ length c.loop-h.counted
+room c = omega (arith, c.loop-h.invariant.5.kept, c.requires.1.1)
 
-room : (c : tie.In-loop invariant-loop decreases-loop) → 2 * c.before.loop.h + 2 ≤ length c.before.loop.counted
-room c = omega (arith, c.before.loop.invariant.5.kept, (start c.before).pre.1.1)
-
-ranged : (c : tie.In-loop invariant-loop decreases-loop) → HourRanged (start c.before).args.body.now c.before.loop.at
+ranged : (c : tie.In-loop-h invariant-loop-h decreases-loop-h) → HourRanged c.args.body.now c.loop-h.at
 ranged c =
-    let s = start c.before in
-    subst (HourRanged s.args.body.now) (sym (here c.before)) (hour_ranged s.args.body.now s.pre.0 c.before.loop.h c.loop-test.true)
+    subst (HourRanged c.args.body.now) (sym (here c.before)) (hour_ranged c.args.body.now c.requires.0 c.loop-h.h c.loop-h-test.true)
 
-word-requires : tie.Need-word-requires invariant-loop decreases-loop
-word-requires c κs = let z = sound_size _ _ c.before.before.before.requires.0 in omega arith
+word-requires : tie.Need-word-flag-requires invariant-loop-h decreases-loop-h
+word-requires c κs = let z = sound_size _ _ c.requires.0 in omega arith
 
-word-requires-2 : tie.Need-word-requires-2 invariant-loop decreases-loop
-word-requires-2 c κs = let z = sound_size _ _ c.before.before.before.before.requires.0 in omega arith
+word-requires-2 : tie.Need-word-load-requires invariant-loop-h decreases-loop-h
+word-requires-2 c κs = let z = sound_size _ _ c.requires.0 in omega arith
 
-word-requires-3 : tie.Need-word-requires-3 invariant-loop decreases-loop
-word-requires-3 c κs = let z = sound_size _ _ c.before.before.before.before.before.requires.0 in omega arith
+word-requires-3 : tie.Need-word-count-requires invariant-loop-h decreases-loop-h
+word-requires-3 c κs = let z = sound_size _ _ c.requires.0 in omega arith
 
-loop-holds : tie.Need-loop-init invariant-loop decreases-loop
+loop-holds : tie.Need-loop-h-init invariant-loop-h decreases-loop-h
 loop-holds c =
-    let w = c.before in
-    (omega arith, c.first-hour.ensures, w.before.word2.ensures, w.word3.ensures, w.before.before.word.ensures, fill_start _ _)
+    (omega arith, c.first_hour-at.ensures, c.word-load.ensures, c.word-count.ensures, c.word-flag.ensures, fill_start _ _)
 
-upward-requires : tie.Need-upward-requires invariant-loop decreases-loop
+upward-requires : tie.Need-upward-upward-requires invariant-loop-h decreases-loop-h
 upward-requires c κs = ranged c
 
-downward-quantity-requires : tie.Need-downward-quantity-requires invariant-loop decreases-loop
+downward-quantity-requires : tie.Need-downward_quantity-downward-requires invariant-loop-h decreases-loop-h
 downward-quantity-requires c κs = ranged c.before
 
-own-there : tie.Need-shared-slice-read-own invariant-loop decreases-loop
-own-there c = let i = c.before.before.before in omega (arith, (start i.before).pre.1.0, i.loop-test.true)
+own-there : tie.Need-bounds-basis-h invariant-loop-h decreases-loop-h
+own-there c = omega (arith, c.requires.1.0, c.loop-h-test.true)
 
-first-place : tie.Need-slice-write-counted invariant-loop decreases-loop
+first-place : tie.Need-bounds-counted-h invariant-loop-h decreases-loop-h
 first-place c = omega (arith, room c.before.before.before.before)
 
-second-place : tie.Need-slice-write-counted-2 invariant-loop decreases-loop
+second-place : tie.Need-bounds-counted-h-in-loop-h invariant-loop-h decreases-loop-h
 second-place c = simp length-set (omega (arith, room c.before.before.before.before.before))
 
-next-hour-requires : tie.Need-next-hour-requires invariant-loop decreases-loop
+next-hour-requires : tie.Need-next_hour-at-requires invariant-loop-h decreases-loop-h
 next-hour-requires c κs =
-    let l = c.before.before.before.before.before.before in
-    let inside = hour_inside _ _ (start l).requires.0 l.loop.h (omega arith) in
-    (l.loop.invariant.1, omega (arith, here l, l.loop.invariant.2, l.loop.invariant.3, inside))
+    let inside = hour_inside _ _ c.requires.0 c.loop-h.h (omega arith) in
+    (c.loop-h.invariant.1, omega (arith, here c.before.before.before.before.before.before, c.loop-h.invariant.2, c.loop-h.invariant.3, inside))
 
-loop-again : tie.Need-loop-preserved invariant-loop decreases-loop
+loop-again : tie.Need-loop-h-preserved invariant-loop-h decreases-loop-h
 loop-again c =
-    let second = c.before in
-    let first = second.before in
-    let down = first.before.before in
-    let i = down.before.before in
-    let l = i.before in
-    let s = (start l).args in
-    let v = l.loop.invariant in
+    let s = c.args in
+    let v = c.loop-h.invariant in
     let body = s.body.now in
     let basis = s.basis.now in (
       omega arith,
-      c.next-hour.ensures,
+      c.next_hour-at.ensures,
       v.2,
       v.3,
       v.4,
-      hour_stored (basis_in body basis) l.loop.h day_hours _ _ v.5 i.loop-test.true (omega (arith, room i))
-          (counts body basis l.loop.h Upward v.4 (down.before.upward.ensures ∙ ap (upward_from body) (here l)) first.where-passed.ensures)
-          (counts body basis l.loop.h Downward v.4 (down.downward-quantity.ensures ∙ ap (downward_from body) (here l))
-          second.where-passed2.ensures),
+      hour_stored (basis_in body basis) c.loop-h.h day_hours _ _ v.5 c.loop-h-test.true (omega (arith, room c.before.before.before.before.before.before))
+          (counts body basis c.loop-h.h Upward v.4 (c.upward-upward.ensures ∙ ap (upward_from body) (here c.before.before.before.before.before.before.before)) c.where_passed.ensures)
+          (counts body basis c.loop-h.h Downward v.4 (c.downward_quantity-downward.ensures ∙ ap (downward_from body) (here c.before.before.before.before.before.before.before))
+          c.where_passed-in-loop-h.ensures),
     )
 
-same_length : tie.Need-same-length invariant-loop decreases-loop
-same_length c = c.before.loop.invariant.5.kept
+same_length : tie.Need-shape_of-counted invariant-loop-h decreases-loop-h
+same_length c = c.loop-h.invariant.5.kept
 
-returns : tie.Need-returns invariant-loop decreases-loop
+returns : tie.Need-returns invariant-loop-h decreases-loop-h
 returns c =
-    let l = c.before.loop in
+    let l = c.loop-h in
     let e : l.h ≡ day_hours = omega arith in
-    rw e at (fill_end (rw (hours_done _ l.h day_hours c.loop-test.false) at l.invariant.5))
+    rw e at (fill_end (rw (hours_done _ l.h day_hours c.loop-h-test.false) at l.invariant.5))
 
-pub count-basis-spec : {M : Type 1} → statement M
-count-basis-spec =
-    tie.close (tie.spec invariant-loop decreases-loop word-requires word-requires-2 (λ c. search rules) word-requires-3 (λ c. search rules) (λ c κs. search rules)
-    loop-holds upward-requires downward-quantity-requires (λ c. search rules) own-there (λ c κs. search rules) (λ c. search rules) (λ c. search rules)
-    first-place (λ c κs. search rules) (λ c. search rules) (λ c. search rules) (λ c. search rules) second-place next-hour-requires (λ c. search rules)
-    (λ c. search rules) loop-again same_length returns)
+pub count_basis_spec : {M : Type 1} → statement M
+count_basis_spec =
+    tie.close (tie.spec invariant-loop-h decreases-loop-h word-requires word-requires-2 (λ c. search rules) word-requires-3 (λ c. search rules) (λ c κs. search rules) loop-holds upward-requires downward-quantity-requires (λ c. search rules) own-there (λ c κs. search rules) (λ c. search rules) (λ c. search rules) first-place (λ c κs. search rules) (λ c. search rules) (λ c. search rules) (λ c. search rules) second-place next-hour-requires (λ c. search rules) (λ c. search rules) loop-again same_length returns)

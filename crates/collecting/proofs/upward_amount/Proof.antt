@@ -6,11 +6,12 @@ use Rattle.exact.proofs.Machine.{within}
 use Rattle.collecting.proofs.upward_amount.Statement.{statement}
 use Rattle.collecting.proofs.upward_amount.Tie as tie
 
-plus-requires : tie.Need-plus-requires
+plus-requires : tie.Need-plus-upward-requires
 plus-requires c κs =
-    let a = c.before.before.args.amounts in
-    let r = c.before.before.requires in
+    let a = c.args.amounts in
+    let r = c.requires in
     within w64 _ (omega (arith, abs_add a.on.0 a.off.0))
 
-pub upward-amount-spec : {M : Type 1} → statement M
-upward-amount-spec = tie.close (tie.spec plus-requires (λ c. search rules))
+pub upward_amount_spec : {M : Type 1} → statement M
+upward_amount_spec =
+    tie.close (tie.spec plus-requires (λ c. search rules))

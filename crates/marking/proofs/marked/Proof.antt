@@ -9,17 +9,17 @@ use Rattle.marking.proofs.marked.Statement.{statement}
 use Rattle.marking.proofs.marked.Tie as tie
 
 word-requires : tie.Need-word-requires
-word-requires c κs = let z = sound_size _ _ c.before.requires in omega arith
+word-requires c κs = let z = sound_size _ _ c.requires in omega arith
 
-returns : tie.Need-returns
+returns : tie.Need-returns-then-word-ne1
 unfolding marked_in
-returns c = simp (ne_eqb (flag_of c.before.before.before.args.body.now) 1 (λ e. c.if1.true (c.before.word.ensures ∙ e)))
+returns c = simp (ne_eqb (flag_of c.args.body.now) 1 (λ e. c.if-word-ne1.true (c.word.ensures ∙ e)))
 
-returns-2 : tie.Need-returns-2
+returns-2 : tie.Need-returns
 unfolding marked_in
 returns-2 c =
-    let e = c.before in
-    simp (eq-eqb (flag_of e.before.before.before.args.body.now) 1 (sym e.before.word.ensures ∙ e.if1.false)) c.failed.ensures
+    simp (eq-eqb (flag_of c.args.body.now) 1 (sym c.word.ensures ∙ c.if-word-ne1.false)) c.failed.ensures
 
-pub marked-spec : {M : Type 1} → statement M
-marked-spec = tie.close (tie.spec word-requires returns (λ c κs. search rules) returns-2)
+pub marked_spec : {M : Type 1} → statement M
+marked_spec =
+    tie.close (tie.spec word-requires returns (λ c κs. search rules) returns-2)

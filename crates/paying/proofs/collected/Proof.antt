@@ -28,63 +28,57 @@ unfolding sum
 next_sum numbers k n before below e =
     +ℤ_assoc before (numbers k) (sum (each numbers (k + 1) (n - (k + 1)))) ∙ rw (each_next numbers k n below) at e
 
-abbrev invariant-loop : tie.invariant-loop
-invariant-loop payments n j sum₀ k₀ before k =
+abbrev invariant-loop-k : tie.invariant-loop-k
+invariant-loop-k payments n j sum₀ k₀ before k =
     (k ≤ n) × (nat_abs (to_z w64 before) ≤ most_collected * k)
     × (to_z w64 before +ℤ sum (each (numbers_in payments j) k (n - k)) ≡ sum (column (pos 0) payments n j))
 
-abbrev decreases-loop : tie.decreases-loop
-decreases-loop payments n j sum₀ k₀ before k = n - k
+abbrev decreases-loop-k : tie.decreases-loop-k
+decreases-loop-k payments n j sum₀ k₀ before k = n - k
 
-abbrev start : tie.In-loop invariant-loop decreases-loop → tie.Start invariant-loop decreases-loop
-start c = c.before.before
-
-loop-holds : tie.Need-loop-init invariant-loop decreases-loop
+loop-holds : tie.Need-loop-k-init invariant-loop-k decreases-loop-k
 loop-holds c =
     let e : c.args.n - 0 ≡ c.args.n = omega arith in
     (omega arith, omega arith, rw e (+ℤ_idl _))
 
-inside : (c : tie.In-loop invariant-loop decreases-loop) →
-    let s = start c in
-    day_payments * c.before.loop.k + s.args.j < length s.args.payments.now
-inside c = let p = (start c).requires in omega (arith, p.room, p.below, c.loop-test.true)
+inside : (c : tie.In-loop-k invariant-loop-k decreases-loop-k) →
+    day_payments * c.loop-k.k + c.args.j < length c.args.payments.now
+inside c = let p = c.requires in omega (arith, p.room, p.below, c.loop-k-test.true)
 
 -- the number that is added, and the sum with it
-abbrev number : tie.In-loop invariant-loop decreases-loop → ℤ
-number c = let a = (start c).args in numbers_in a.payments.now a.j c.before.loop.k
+abbrev number : tie.In-loop-k invariant-loop-k decreases-loop-k → ℤ
+number c = let a = c.args in numbers_in a.payments.now a.j c.loop-k.k
 
-number-back : (c : tie.In-loop invariant-loop decreases-loop) → to_z w64 (of_z w64 (number c)) ≡ number c
-number-back c = to_z-of_z w64 (number c) (within w64 _ (omega (arith, (start c).requires.each _ c.loop-test.true)))
+number-back : (c : tie.In-loop-k invariant-loop-k decreases-loop-k) → to_z w64 (of_z w64 (number c)) ≡ number c
+number-back c = to_z-of_z w64 (number c) (within w64 _ (omega (arith, c.requires.each _ c.loop-k-test.true)))
 
-small : (c : tie.In-loop invariant-loop decreases-loop) → nat_abs (to_z w64 c.before.loop.sum +ℤ number c) ≤ most_collected * (c.before.loop.k + 1)
-small c = omega (arith, abs_add (to_z w64 c.before.loop.sum) (number c), c.before.loop.invariant.1, (start c).requires.each _ c.loop-test.true)
+small : (c : tie.In-loop-k invariant-loop-k decreases-loop-k) → nat_abs (to_z w64 c.loop-k.sum-bits +ℤ number c) ≤ most_collected * (c.loop-k.k + 1)
+small c = omega (arith, abs_add (to_z w64 c.loop-k.sum-bits) (number c), c.loop-k.invariant.1, c.requires.each _ c.loop-k-test.true)
 
-sum_fits : (c : tie.In-loop invariant-loop decreases-loop) → SFits w64 (to_z w64 c.before.loop.sum +ℤ number c)
-sum_fits c = within w64 _ (omega (arith, small c, (start c).requires.few, c.loop-test.true))
+sum_fits : (c : tie.In-loop-k invariant-loop-k decreases-loop-k) → SFits w64 (to_z w64 c.loop-k.sum-bits +ℤ number c)
+sum_fits c = within w64 _ (omega (arith, small c, c.requires.few, c.loop-k-test.true))
 
-add-sum : tie.Need-overflow-add-sum-2 invariant-loop decreases-loop
+add-sum : tie.Need-overflow_add-sum-in-loop-k invariant-loop-k decreases-loop-k
 add-sum c = rw (number-back c.before) (sum_fits c.before)
 
-loop-again : tie.Need-loop-preserved invariant-loop decreases-loop
+loop-again : tie.Need-loop-k-preserved invariant-loop-k decreases-loop-k
 loop-again c =
-    let i = c.before in
-    let a = (start i).args in
-    let l = i.before.loop in
-    let stored : to_z w64 (of_z w64 (to_z w64 l.sum +ℤ to_z w64 (of_z w64 (number i)))) ≡ to_z w64 l.sum +ℤ number i =
-    ap (λ z. to_z w64 (of_z w64 (to_z w64 l.sum +ℤ z))) (number-back i) ∙ to_z-of_z w64 _ (sum_fits i) in (
+    let a = c.args in
+    let l = c.loop-k in
+    let stored : to_z w64 (of_z w64 (to_z w64 l.sum-bits +ℤ to_z w64 (of_z w64 (number c.before)))) ≡ to_z w64 l.sum-bits +ℤ number c.before =
+    ap (λ z. to_z w64 (of_z w64 (to_z w64 l.sum-bits +ℤ z))) (number-back c.before) ∙ to_z-of_z w64 _ (sum_fits c.before) in (
       omega arith,
-      rw stored (small i),
-      rw stored (next_sum (numbers_in a.payments.now a.j) l.k a.n (to_z w64 l.sum) i.loop-test.true l.invariant.2),
+      rw stored (small c.before),
+      rw stored (next_sum (numbers_in a.payments.now a.j) l.k a.n (to_z w64 l.sum-bits) c.loop-k-test.true l.invariant.2),
     )
 
-returns : tie.Need-returns invariant-loop decreases-loop
+returns : tie.Need-returns invariant-loop-k decreases-loop-k
 unfolding sum
 returns c =
-    let a = c.before.before.args in
-    let l = c.before.loop in
-    sym (+ℤ_idr (to_z w64 l.sum)) ∙ rw (each_done (numbers_in a.payments.now a.j) l.k a.n c.loop-test.false) at l.invariant.2
+    let a = c.args in
+    let l = c.loop-k in
+    sym (+ℤ_idr (to_z w64 l.sum-bits)) ∙ rw (each_done (numbers_in a.payments.now a.j) l.k a.n c.loop-k-test.false) at l.invariant.2
 
-pub collected-spec : {M : Type 1} → statement M
-collected-spec =
-    tie.close (tie.spec invariant-loop decreases-loop loop-holds (λ c. omega (arith, inside c)) (λ c. omega (arith, inside c)) (λ c. omega (arith, inside c))
-    (λ c. inside c) add-sum (λ c. search rules) (λ c. search rules) loop-again returns)
+pub collected_spec : {M : Type 1} → statement M
+collected_spec =
+    tie.close (tie.spec invariant-loop-k decreases-loop-k loop-holds (λ c. omega (arith, inside c)) (λ c. omega (arith, inside c)) (λ c. omega (arith, inside c)) (λ c. inside c) add-sum (λ c. search rules) (λ c. search rules) loop-again returns)

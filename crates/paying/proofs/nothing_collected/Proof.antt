@@ -14,36 +14,35 @@ use Rattle.paying.specs.Columns.{Zeros}
 use Rattle.paying.proofs.nothing_collected.Statement.{statement}
 use Rattle.paying.proofs.nothing_collected.Tie as tie
 
-abbrev invariant-loop : tie.invariant-loop
-invariant-loop payments n end joined₀ i₀ joined i = (i ≤ end) × (joined ≡ 0 → Zeros i payments) × (Zeros i payments → joined ≡ 0)
+abbrev invariant-loop-i : tie.invariant-loop-i
+invariant-loop-i payments n end joined₀ i₀ joined i = (i ≤ end) × (joined ≡ 0 → Zeros i payments) × (Zeros i payments → joined ≡ 0)
 
-abbrev decreases-loop : tie.decreases-loop
-decreases-loop payments n end joined₀ i₀ joined i = end - i
+abbrev decreases-loop-i : tie.decreases-loop-i
+decreases-loop-i payments n end joined₀ i₀ joined i = end - i
 
-loop-holds : tie.Need-loop-init invariant-loop decreases-loop
+loop-holds : tie.Need-loop-i-init invariant-loop-i decreases-loop-i
 loop-holds c = (omega arith, λ z p below. absurd (omega arith), λ zeros. refl)
 
-loop-again : tie.Need-loop-preserved invariant-loop decreases-loop
+loop-again : tie.Need-loop-i-preserved invariant-loop-i decreases-loop-i
 loop-again c =
-    let l = c.before.before.loop in
-    let payments = c.before.before.before.args.payments.now in
+    let l = c.loop-i in
+    let payments = c.args.payments.now in
     let bits = of_z w64 (get_or payments l.i (pos 0)) in
-    let whole = or_add_and l.joined bits in (
+    let whole = or_add_and l.joined-bits bits in (
       omega arith,
-      λ z. below_more (λ p. get_or payments p (pos 0) ≡ pos 0) l.i (l.invariant.1 (omega (arith, z, whole, and_le_r l.joined bits)))
-          (zero_bits (record { sfits = c.joined.given }) (omega (arith, z, whole, and_le_l l.joined bits))),
+      λ z. below_more (λ p. get_or payments p (pos 0) ≡ pos 0) l.i (l.invariant.1 (omega (arith, z, whole, and_le_r l.joined-bits bits)))
+          (zero_bits (record { sfits = c.joined-1.given }) (omega (arith, z, whole, and_le_l l.joined-bits bits))),
       λ zeros. ap₂ (λ a z. bit_or a (of_z w64 z)) (l.invariant.2 (λ p below. zeros p (omega arith))) (zeros l.i (omega arith)),
     )
 
-returns : tie.Need-returns invariant-loop decreases-loop
+returns : tie.Need-returns invariant-loop-i decreases-loop-i
 returns c =
-    let l = c.before.loop in
-    let left = c.loop-test.false in (
-      λ none p below. l.invariant.1 (eqb-true l.joined 0 none) p (omega (arith, below, left)),
-      λ zeros. eq-eqb l.joined 0 (l.invariant.2 (λ p below. zeros p (omega (arith, below, l.invariant.0)))),
+    let l = c.loop-i in
+    let left = c.loop-i-test.false in (
+      λ none p below. l.invariant.1 (eqb-true l.joined-bits 0 none) p (omega (arith, below, left)),
+      λ zeros. eq-eqb l.joined-bits 0 (l.invariant.2 (λ p below. zeros p (omega (arith, below, l.invariant.0)))),
     )
 
-pub nothing-collected-spec : {M : Type 1} → statement M
-nothing-collected-spec =
-    tie.close (tie.spec invariant-loop decreases-loop (λ c. search rules) loop-holds (λ c. search rules) (λ c. search rules) (λ c. search rules) (λ c. search rules)
-    loop-again returns)
+pub nothing_collected_spec : {M : Type 1} → statement M
+nothing_collected_spec =
+    tie.close (tie.spec invariant-loop-i decreases-loop-i (λ c. search rules) loop-holds (λ c. search rules) (λ c. search rules) (λ c. search rules) (λ c. search rules) loop-again returns)

@@ -9,18 +9,16 @@ use Rattle.paying.proofs.Payments.{paid_none, paid_some}
 use Rattle.paying.proofs.paid.Statement.{statement}
 use Rattle.paying.proofs.paid.Tie as tie
 
-returns : tie.Need-returns
+returns : tie.Need-returns-then-sum_of_demands-eq0
 returns c =
-    let s = c.before.before.before in
-    paid_none s.args.collected s.args.basis.now (most_areas + 1) _ (omega (arith, s.requires.1.1)) (sym c.before.sum-of-demands.ensures ∙ c.if1.true)
-    (to_z-of_z w64 _ s.ranges.collected)
+    paid_none c.args.collected c.args.basis.now (most_areas + 1) _ (omega (arith, c.requires.1.1)) (sym c.sum_of_demands.ensures ∙ c.if-sum_of_demands-eq0.true)
+    (to_z-of_z w64 _ c.ranges.collected)
 
-returns-2 : tie.Need-returns-2
+returns-2 : tie.Need-returns
 returns-2 c =
-    let e = c.before.before.before in
-    let s = e.before.before.before in
-    paid_some s.args.collected s.args.basis.now (most_areas + 1) _ (omega (arith, s.requires.1.1)) (λ q. e.if1.false (e.before.sum-of-demands.ensures ∙ q))
-    (rw (to_z-of_z w64 _ s.ranges.collected) at c.before.share-demands.ensures)
+    paid_some c.args.collected c.args.basis.now (most_areas + 1) _ (omega (arith, c.requires.1.1)) (λ q. c.if-sum_of_demands-eq0.false (c.sum_of_demands.ensures ∙ q))
+    (rw (to_z-of_z w64 _ c.ranges.collected) at c.share_demands.ensures)
 
-pub paid-spec : {M : Type 1} → statement M
-paid-spec = tie.close (tie.spec (λ c κs. search rules) (λ c. search rules) (λ c. search rules) returns (λ c. search rules) (λ c κs. search rules) returns-2)
+pub paid_spec : {M : Type 1} → statement M
+paid_spec =
+    tie.close (tie.spec (λ c κs. search rules) (λ c. search rules) (λ c. search rules) returns (λ c. search rules) (λ c κs. search rules) returns-2)

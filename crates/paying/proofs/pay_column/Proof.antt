@@ -17,92 +17,79 @@ use Rattle.paying.proofs.pay_column.Statement.{statement}
 use Rattle.paying.proofs.pay_column.Tie as tie
 
 -- back to the start from the basis of the column
-abbrev start : tie.After-basis-column → tie.Start
-start c = c.before.before.before.before.before
-
-count : (c : tie.After-basis-column) → length (take (start c).args.n c.basis-column.result) ≡ (start c).args.n
+count : (c : tie.After-basis_column-basis) → length (take c.args.n c.basis_column-basis.result) ≡ c.args.n
 count c =
-    let a = (start c).args in
-    ap length c.basis-column.ensures ∙ each_length (λ k. get_or a.bases.now (day_payments * k + a.j) 0) 0 a.n
+    let a = c.args in
+    ap length c.basis_column-basis.ensures ∙ each_length (λ k. get_or a.bases.now (day_payments * k + a.j) 0) 0 a.n
 
-amount : (c : tie.After-basis-column) →
-    let a = (start c).args in
-    to_z w64 (of_z w64 c.before.before.collected.result) ≡ sum (column (pos 0) a.payments.now a.n a.j)
-amount c = got w64 c.before.before.collected.type-inv c.before.before.collected.ensures
+amount : (c : tie.After-basis_column-basis) →
+    let a = c.args in
+    to_z w64 (of_z w64 c.collected-amount.result) ≡ sum (column (pos 0) a.payments.now a.n a.j)
+amount c = got w64 c.collected-amount.type_inv c.collected-amount.ensures
 
-collected-requires : tie.Need-collected-requires
-collected-requires c κs = c.before.before.requires.1.collected
+collected-requires : tie.Need-collected-amount-requires
+collected-requires c κs = c.requires.1.collected
 
-basis-column-requires : tie.Need-basis-column-requires
-basis-column-requires c κs = let p = c.before.before.before.before.requires in (p.1.areas, (p.0, p.1.counted))
+basis-column-requires : tie.Need-basis_column-basis-requires
+basis-column-requires c κs = let p = c.requires in (p.1.areas, (p.0, p.1.counted))
 
-basis-there : tie.Need-array-share-prefix-basis
-basis-there c = omega (arith, count c, length-take (start c).args.n c.basis-column.result)
+basis-there : tie.Need-slice_bounds-basis-end
+basis-there c = omega (arith, count c, length-take c.args.n c.basis_column-basis.result)
 
-paid-requires : tie.Need-paid-requires
+paid-requires : tie.Need-paid-numbers-requires
 paid-requires c κs =
-    let b = c.before in
-    let a = (start b).args in
-    let p = (start b).requires.1 in
+    let a = c.args in
+    let p = c.requires.1 in
     let collected = sum (column (pos 0) a.payments.now a.n a.j) in
-    rw (amount b, b.basis-column.ensures) (
+    rw (amount c.before, c.basis_column-basis.ensures) (
       payment_fits collected _ (collected_small a.payments.now a.n a.j p.collected) p.basis,
       (omega (arith, p.basis), rw (each_length (λ k. get_or a.bases.now (day_payments * k + a.j) 0) 0 a.n) p.areas),
     )
 
-numbers-are : (c : tie.After-paid) →
-    let b = c.before.before in
-    let a = (start b).args in
-    take (a.n + 1) c.paid.result ≡ column_paid a.bases.now a.n a.j a.payments.now
+numbers-are : (c : tie.After-paid-numbers) →
+    let a = c.args in
+    take (a.n + 1) c.paid-numbers.result ≡ column_paid a.bases.now a.n a.j a.payments.now
 numbers-are c =
-    let b = c.before.before in
-    rw (count b, amount b, b.basis-column.ensures) at c.paid.ensures
+    rw (count c.before.before, amount c.before.before, c.basis_column-basis.ensures) at c.paid-numbers.ensures
 
-rows : (c : tie.After-paid) → let b = c.before.before in length (take ((start b).args.n + 1) c.paid.result) ≡ (start b).args.n + 1
+rows : (c : tie.After-paid-numbers) → length (take (c.args.n + 1) c.paid-numbers.result) ≡ c.args.n + 1
 rows c =
-    let b = c.before.before in
-    let a = (start b).args in
+    let a = c.args in
     ap length (numbers-are c)
     ∙ paid_length (sum (column (pos 0) a.payments.now a.n a.j)) (column 0 a.bases.now a.n a.j)
     ∙ ap (λ n. n + 1) (each_length (λ k. get_or a.bases.now (day_payments * k + a.j) 0) 0 a.n)
 
-numbers-there : tie.Need-array-share-prefix-numbers
-numbers-there c = omega (arith, rows c, length-take ((start c.before.before).args.n + 1) c.paid.result)
+numbers-there : tie.Need-slice_bounds-numbers-end
+numbers-there c = omega (arith, rows c, length-take (c.args.n + 1) c.paid-numbers.result)
 
-put-column-requires : tie.Need-put-column-requires
+put-column-requires : tie.Need-put_column-requires
 put-column-requires c κs =
-    let p = c.before.before in
-    let s = start p.before.before in
-    (s.pre.0, rw (rows p) s.pre.1.rests)
+    (c.requires.0, rw (rows c.before.before) c.requires.1.rests)
 
-returns-2 : tie.Need-returns-2
+returns-2 : tie.Need-returns
 returns-2 c =
-    let p = c.before.before.before.before in
-    let a = (start p.before.before).args in
-    c.before.put-column.ensures ∙ ap (λ l. put_column a.j l a.payments.now) (numbers-are p)
+    let a = c.args in
+    c.put_column.ensures ∙ ap (λ l. put_column a.j l a.payments.now) (numbers-are c.before.before.before.before)
 
 -- nothing was collected
-nothing_is : (c : tie.Then1) →
-    let a = c.before.before.before.before.args in
+nothing_is : (c : tie.Then-amount-eq0) →
+    let a = c.args in
     room (a.n + 1) ≡ column_paid a.bases.now a.n a.j a.payments.now
 nothing_is c =
-    let a = c.before.before.before.before.args in
-    let k = c.before.collected in
-    let none : sum (column (pos 0) a.payments.now a.n a.j) ≡ pos 0 = sym k.ensures ∙ zero_bits (record { sfits = k.type-inv }) c.if1.true in
+    let a = c.args in
+    let k = c.collected-amount in
+    let none : sum (column (pos 0) a.payments.now a.n a.j) ≡ pos 0 = sym k.ensures ∙ zero_bits (record { sfits = k.type_inv }) c.if-amount-eq0.true in
     let count = each_length (λ i. get_or a.bases.now (day_payments * i + a.j) 0) 0 a.n in
     sym (rw none (paid_nothing (column 0 a.bases.now a.n a.j) ∙ ap (λ n. room (n + 1)) count))
 
-clear-column-requires : tie.Need-clear-column-requires
-clear-column-requires c κs = let s = c.before.before.before.before.before in (s.requires.0, s.requires.1.rests)
+clear-column-requires : tie.Need-clear_column-requires
+clear-column-requires c κs = (c.requires.0, c.requires.1.rests)
 
-returns : tie.Need-returns
+returns : tie.Need-returns-then-amount-eq0
 returns c =
-    let t = c.before.before.before in
-    let a = t.before.before.before.before.args in
-    c.before.clear-column.ensures ∙ ap (λ l. put_column a.j l a.payments.now) (nothing_is t)
+    let a = c.args in
+    c.clear_column.ensures ∙ ap (λ l. put_column a.j l a.payments.now) (nothing_is c.before.before.before)
 
-pub pay-column-spec : {M : Type 1} → statement M
-pay-column-spec =
-    tie.close (tie.spec collected-requires (λ c. omega (arith, c.before.before.before.requires.1.areas)) clear-column-requires (λ c. search rules)
-    returns basis-column-requires basis-there (λ c. sym (count c.before)) paid-requires numbers-there (λ c. sym (rows c.before))
-    put-column-requires (λ c. search rules) returns-2)
+pub pay_column_spec : {M : Type 1} → statement M
+pay_column_spec =
+    tie.close (tie.spec collected-requires (λ c. omega (arith, c.requires.1.areas)) clear-column-requires (λ c. search rules) returns basis-column-requires basis-there (λ c. sym (count c.before)) paid-requires numbers-there (λ c. sym (rows c.before)) put-column-requires (λ c. search rules) returns-2)

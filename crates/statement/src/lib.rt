@@ -1,5 +1,6 @@
 // Writes the statement of one area into lent bytes, eight a number: its hours, each its amounts and its charges.
 #![tactic(auto)]
+
 ghost use Rattle.std.specs.Prelude.{◌≡◌, ◌++◌, ◌+◌, ◌*◌, ◌≤◌, nat_abs, length, drop};
 ghost use Rattle.exact.specs.Total.{total};
 ghost use Rattle.words.specs.Bytes.{words_from};

@@ -15,16 +15,13 @@ same : {a a' b b' c c' d d' e e' : ℤ} → a ≡ a' → b ≡ b' → c ≡ c' �
 same f g h i j = rw (f, g, h, i, j)
 
 -- back from the numbers as they stand side by side to the start
-abbrev start : tie.After-shown → tie.Start
-start c = c.before.before.before.before.before.before.before.before.before.before.before.before
-
 returns : tie.Need-returns
 returns c =
-    let s = start c.before.before.before.before in
-    let r = s.pre.0 in
-    c.before.before.put-numbers.ensures
-    ∙ ap (λ shown. encoded shown ++ drop (8 * amounts_shown) s.args.block.now)
+    let r = c.requires.0 in
+    c.put_numbers.ensures
+    ∙ ap (λ shown. encoded shown ++ drop (8 * amounts_shown) c.args.block.now)
     (same (amount_back _ r.on) (amount_back _ r.off) (amount_back _ r.down) (amount_back _ r.surcharge) (amount_back _ r.credit))
 
-pub put-amounts-spec : {M : Type 1} → statement M
-put-amounts-spec = tie.close (tie.spec (λ c. search rules) (λ c κs. search rules) (λ c. search rules) returns)
+pub put_amounts_spec : {M : Type 1} → statement M
+put_amounts_spec =
+    tie.close (tie.spec (λ c. search rules) (λ c κs. search rules) (λ c. search rules) returns)

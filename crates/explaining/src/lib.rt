@@ -1,6 +1,7 @@
 // What the amounts of an hour rest on: the numbers that settling works out on its way and that no statement shows. Each is asked of the
 // function that settling asks.
 #![tactic(auto)]
+
 ghost use Rattle.std.specs.Prelude.{◌≡◌, cond, eqb};
 ghost use Rattle.exact.specs.Total.{total};
 ghost use Rattle.body.specs.Layout.{hour_at, mec_at, demands_of};

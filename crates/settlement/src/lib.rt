@@ -1,5 +1,6 @@
 // Settles a day file into a lent statement: the numbers needed, the first refusal, and the writing, which can refuse nothing.
 #![tactic(auto)]
+
 ghost use Rattle.std.specs.Prelude.{◌≡◌, ◌++◌, ◌*◌, ◌≤◌, ◌<◌, length, drop};
 ghost use Rattle.limits.specs.Ranges.{most_coordinators, proved_points};
 ghost use Rattle.body.specs.Layout.{coordinators_of};

@@ -4,11 +4,12 @@ use Rattle.amounts.proofs.Hours.{hour_there}
 use Rattle.explaining.proofs.hour_downward.Statement.{statement}
 use Rattle.explaining.proofs.hour_downward.Tie as tie
 
-downward-quantity-requires : tie.Need-downward-quantity-requires
-downward-quantity-requires c κs = hour_there c.before.requires
+downward-quantity-requires : tie.Need-downward_quantity-requires
+downward-quantity-requires c κs = hour_there c.requires
 
 returns : tie.Need-returns
-returns c = let s = c.before.before in c.downward-quantity.ensures ∙ ap (downward_from s.args.body.now) s.requires.here
+returns c = c.downward_quantity.ensures ∙ ap (downward_from c.args.body.now) c.requires.here
 
-pub hour-downward-spec : {M : Type 1} → statement M
-hour-downward-spec = tie.close (tie.spec downward-quantity-requires returns)
+pub hour_downward_spec : {M : Type 1} → statement M
+hour_downward_spec =
+    tie.close (tie.spec downward-quantity-requires returns)

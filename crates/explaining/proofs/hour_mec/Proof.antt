@@ -9,17 +9,17 @@ use Rattle.amounts.proofs.Hours.{hour_there}
 use Rattle.explaining.proofs.hour_mec.Statement.{statement}
 use Rattle.explaining.proofs.hour_mec.Tie as tie
 
-add-word : tie.Need-overflow-add-word
-add-word c = let r = (hour_there c.before.requires).room in omega arith
+add-word : tie.Need-overflow_add-at
+add-word c = let r = (hour_there c.requires).room in omega arith
 
 word-requires : tie.Need-word-requires
-word-requires c κs = let r = (hour_there c.before.requires).room in omega arith
+word-requires c κs = let r = (hour_there c.requires).room in omega arith
 
 returns : tie.Need-returns
 returns c =
-    let s = c.before.before.before in
-    got w32 c.signed.type-inv
-    (c.signed.ensures ∙ ap signed_of (c.before.word.ensures ∙ ap (λ at. word_at s.args.body.now (at + 7)) s.requires.here))
+    got w32 c.signed.type_inv
+    (c.signed.ensures ∙ ap signed_of (c.word.ensures ∙ ap (λ at. word_at c.args.body.now (at + 7)) c.requires.here))
 
-pub hour-mec-spec : {M : Type 1} → statement M
-hour-mec-spec = tie.close (tie.spec add-word word-requires (λ c κs. search rules) returns)
+pub hour_mec_spec : {M : Type 1} → statement M
+hour_mec_spec =
+    tie.close (tie.spec add-word word-requires (λ c κs. search rules) returns)

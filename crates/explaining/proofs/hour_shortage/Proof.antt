@@ -32,29 +32,24 @@ module _ (terms : Terms) (day : Day) (body : List ℕ) (h at : ℕ) (starts : at
   unfolding shortage_at price_needed hour_facts tier_at day_facts day_of
   shortage-is facts requirement flag quarters peak needed e f g i j k = rw (k, j, i, g, f, e, is, starts)
 
-hour-facts-requires : tie.Need-hour-facts-requires
-hour-facts-requires c κs = hour_there c.before.requires
+hour-facts-requires : tie.Need-hour_facts-facts-requires
+hour-facts-requires c κs = hour_there c.requires
 
-add-word : tie.Need-overflow-add-word
-add-word c = let r = (hour_there c.before.before.before.requires).room in omega arith
+add-word : tie.Need-overflow_add-at
+add-word c = let r = (hour_there c.requires).room in omega arith
 
 word-requires : tie.Need-word-requires
-word-requires c κs = let r = (hour_there c.before.before.before.requires).room in omega arith
+word-requires c κs = let r = (hour_there c.requires).room in omega arith
 
 word-requires-2 : tie.Need-word-requires-2
-word-requires-2 c κs = let r = (hour_there c.before.before.before.before.before.requires).room in omega arith
+word-requires-2 c κs = let r = (hour_there c.requires).room in omega arith
 
 returns : tie.Need-returns
 returns c =
-    let n = c.before in
-    let p = n.before.before in
-    let f = p.before.before.before in
-    let s = f.before.before in
-    let a = s.args in
-    shortage-is a.terms a.day a.body.now a.h a.at s.requires.here s.requires.facts _ _ _ _ _ _ f.hour-facts.ensures
-    p.before.word.ensures n.before.word2.ensures p.peak-hour.ensures n.price-needed.ensures c.hour-multiplier.ensures
+    let a = c.args in
+    shortage-is a.terms a.day a.body.now a.h a.at c.requires.here c.requires.facts _ _ _ _ _ _ c.hour_facts-facts.ensures
+    c.word.ensures c.word-2.ensures c.peak_hour-peak.ensures c.price_needed-needed.ensures c.hour_multiplier-quarters.ensures
 
-pub hour-shortage-spec : {M : Type 1} → statement M
-hour-shortage-spec =
-    tie.close (tie.spec hour-facts-requires add-word word-requires (λ c κs. search rules) word-requires-2 (λ c κs. search rules)
-    (λ c κs. search rules) returns)
+pub hour_shortage_spec : {M : Type 1} → statement M
+hour_shortage_spec =
+    tie.close (tie.spec hour-facts-requires add-word word-requires (λ c κs. search rules) word-requires-2 (λ c κs. search rules) (λ c κs. search rules) returns)

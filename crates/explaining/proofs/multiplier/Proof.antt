@@ -5,8 +5,9 @@ use Rattle.verdict.proofs.Tests.{tests}
 use Rattle.explaining.proofs.multiplier.Statement.{statement}
 use Rattle.explaining.proofs.multiplier.Tie as tie
 
-returns-2 : tie.Need-returns-2
-returns-2 c = c.quarters-of.ensures ∙ rw (lt-leb _ _ c.before.if1.false)
+returns-2 : tie.Need-returns
+returns-2 c = c.quarters_of.ensures ∙ rw (lt-leb _ _ c.if-tier-le1.false)
 
-pub multiplier-spec : {M : Type 1} → statement M
-multiplier-spec = tie.close (tie.spec (λ c. search tests) (λ c κs. search rules) returns-2)
+pub multiplier_spec : {M : Type 1} → statement M
+multiplier_spec =
+    tie.close (tie.spec (λ c. search tests) (λ c κs. search rules) returns-2)

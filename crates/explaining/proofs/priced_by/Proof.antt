@@ -17,8 +17,8 @@ same e f g = rw (e, f, g)
 
 returns : tie.Need-returns
 returns c =
-    let p = c.before in
-    same p.before.is-price.ensures (got w32 p.price-of.type-inv p.price-of.ensures) c.count_of.ensures
+    same c.is_price.ensures (got w32 c.price_of.type_inv c.price_of.ensures) c.count_of.ensures
 
-pub priced-by-spec : {M : Type 1} → statement M
-priced-by-spec = tie.close (tie.spec (λ c κs. search rules) (λ c κs. search rules) (λ c κs. search rules) returns)
+pub priced_by_spec : {M : Type 1} → statement M
+priced_by_spec =
+    tie.close (tie.spec (λ c κs. search rules) (λ c κs. search rules) (λ c κs. search rules) returns)

@@ -7,27 +7,26 @@ use Rattle.settlement.proofs.Accepted.{opened, own_settleable, no_list, rule_sam
 use Rattle.settlement.proofs.answer.Statement.{statement}
 use Rattle.settlement.proofs.answer.Tie as tie
 
-accepted : (c : tie.Else1) → number_of (check_of c.before.before.before.before.args.file.now) ≡ 0
-accepted c = sym (ap number_of c.before.before.checked.ensures.0) ∙ sym c.before.number.ensures ∙ c.if1.false
+accepted : (c : tie.Else-number-ne0) → number_of (check_of c.args.file.now) ≡ 0
+accepted c = sym (ap number_of c.checked-told.ensures.0) ∙ sym c.number.ensures ∙ c.if-number-ne0.false
 
-returns : tie.Need-returns
+returns : tie.Need-returns-then-number-ne0
 returns c =
-    let s = c.before.before.before.before.args in
-    seq_stop _ _ _ _ _ (opened s.file.now s.room) c.before.before.checked.ensures.0 c.before.number.ensures c.if1.true
+    let s = c.args in
+    seq_stop _ _ _ _ _ (opened s.file.now s.room) c.checked-told.ensures.0 c.number.ensures c.if-number-ne0.true
 
-answer-accepted-requires : tie.Need-answer-accepted-requires
+answer-accepted-requires : tie.Need-answer_accepted-requires
 answer-accepted-requires c κs =
-    let e = c.before.before in
-    (own_settleable _ (accepted e), e.before.before.checked.ensures.1 (sym e.before.number.ensures ∙ e.if1.false))
+    (own_settleable _ (accepted c.before.before), c.checked-told.ensures.1 (sym c.number.ensures ∙ c.if-number-ne0.false))
 
-returns-2 : tie.Need-returns-2
+returns-2 : tie.Need-returns
 returns-2 c =
-    let e = c.before.before.before in
-    let s = e.before.before.before.before.args in
+    let s = c.args in
     let f = s.file.now in
-    c.answer-accepted.ensures
+    c.answer_accepted.ensures
     ∙ rule_same _ _ f (λ k h. no_list f k) s.room
-    ∙ sym (seq_next _ _ _ _ _ (opened f s.room) e.before.before.checked.ensures.0 e.before.number.ensures e.if1.false)
+    ∙ sym (seq_next _ _ _ _ _ (opened f s.room) c.checked-told.ensures.0 c.number.ensures c.if-number-ne0.false)
 
-pub answer-spec : {M : Type 1} → statement M
-answer-spec = tie.close (tie.spec (λ c κs. search rules) (λ c κs. search rules) returns (λ c. search rules) answer-accepted-requires returns-2)
+pub answer_spec : {M : Type 1} → statement M
+answer_spec =
+    tie.close (tie.spec (λ c κs. search rules) (λ c κs. search rules) returns (λ c. search rules) answer-accepted-requires returns-2)

@@ -14,81 +14,69 @@ use Rattle.settlement.proofs.Accepted.{terms_there}
 use Rattle.settlement.proofs.check_areas.Statement.{statement}
 use Rattle.settlement.proofs.check_areas.Tie as tie
 
-abbrev invariant-loop : tie.invariant-loop
-invariant-loop peak days file n plain k₀ k = (k ≤ n) × (areas_refusal (listed days file) file ≡ scan (area_refusal (listed days file) file) k (n - k))
+abbrev invariant-loop-k : tie.invariant-loop-k
+invariant-loop-k peak days file n plain k₀ k = (k ≤ n) × (areas_refusal (listed days file) file ≡ scan (area_refusal (listed days file) file) k (n - k))
 
-abbrev decreases-loop : tie.decreases-loop
-decreases-loop peak days file n plain k₀ k = n - k
+abbrev decreases-loop-k : tie.decreases-loop-k
+decreases-loop-k peak days file n plain k₀ k = n - k
 
-abbrev start : tie.In-loop invariant-loop decreases-loop → tie.Start invariant-loop decreases-loop
-start c = c.before.before.before.before
+below : (c : tie.In-loop-k invariant-loop-k decreases-loop-k) → c.loop-k.k < areas_of c.args.file.now
+below c = omega (arith, c.requires.0.1.0, c.loop-k-test.true)
 
-below : (c : tie.In-loop invariant-loop decreases-loop) → c.before.loop.k < areas_of (start c).args.file.now
-below c = omega (arith, (start c).requires.0.1.0, c.loop-test.true)
-
-loop-holds : tie.Need-loop-init invariant-loop decreases-loop
+loop-holds : tie.Need-loop-k-init invariant-loop-k decreases-loop-k
 unfolding areas_refusal
-loop-holds c = let e = c.before.before.requires.0.1.0 in (omega arith, rw (sub-zero, e))
+loop-holds c = let e = c.requires.0.1.0 in (omega arith, rw (sub-zero, e))
 
 same : (terms terms' : Terms) (from from' : ℕ) (body body' : List ℕ) → terms ≡ terms' → from ≡ from' → body ≡ body'
     → hours_refusal terms from body ≡ hours_refusal terms' from' body'
 same terms terms' from from' body body' e f g = rw (e, f, g)
 
-terms-are : (c : tie.After-terms-of invariant-loop decreases-loop) →
-    let i = c.before.before.before in
-    let f = (start i).args.file.now in
-    c.terms-of.result ≡ terms_at (listed (start i).args.days.now f) f i.before.loop.k
+terms-are : (c : tie.After-terms_of-terms invariant-loop-k decreases-loop-k) →
+    let f = c.args.file.now in
+    c.terms_of-terms.result ≡ terms_at (listed c.args.days.now f) f c.loop-k.k
 terms-are c =
-    let s = start c.before.before.before in
-    terms_there s.args.days.now s.args.file.now _ _ _ _ c.terms-of.ensures s.pre.0.1.1 c.before.body_at.ensures.0
+    terms_there c.args.days.now c.args.file.now _ _ _ _ c.terms_of-terms.ensures c.requires.0.1.1 c.body_at-body.ensures.0
 
-turn : (c : tie.After-check-area invariant-loop decreases-loop) →
-    let i = c.before.before.before.before in
-    let f = (start i).args.file.now in
-    c.check-area.result ≡ area_refusal (listed (start i).args.days.now f) f i.before.loop.k
+turn : (c : tie.After-check_area-v invariant-loop-k decreases-loop-k) →
+    let f = c.args.file.now in
+    c.check_area-v.result ≡ area_refusal (listed c.args.days.now f) f c.loop-k.k
 unfolding area_refusal
 turn c =
-    let b = c.before.before in
-    c.check-area.ensures ∙ same _ _ _ _ _ _ (terms-are c.before) b.before.word.ensures b.body_at.ensures.0
+    c.check_area-v.ensures ∙ same _ _ _ _ _ _ (terms-are c.before) c.word-start.ensures c.body_at-body.ensures.0
 
-word-requires : tie.Need-word-requires invariant-loop decreases-loop
-word-requires c κs = let i = c in let r = (placed _ (start i).requires.0.0.sound _ (below i)).0 in omega arith
+word-requires : tie.Need-word-start-requires invariant-loop-k decreases-loop-k
+word-requires c κs = let i = c in let r = (placed _ i.before.requires.0.0.sound _ (below i)).0 in omega arith
 
-body-at-requires : tie.Need-body-at-requires invariant-loop decreases-loop
-body-at-requires c κs = let i = c.before in placed _ (start i).requires.0.0.sound _ (below i)
+body-at-requires : tie.Need-body_at-body-requires invariant-loop-k decreases-loop-k
+body-at-requires c κs = placed _ c.requires.0.0.sound _ (below c.before)
 
-terms-of-requires : tie.Need-terms-of-requires invariant-loop decreases-loop
+terms-of-requires : tie.Need-terms_of-terms-requires invariant-loop-k decreases-loop-k
 terms-of-requires c κs =
-    let i = c.before.before in
-    rw c.body_at.ensures.0 (head_inside _ (start i).requires.0.0.sound _ (below i))
+    rw c.body_at-body.ensures.0 (head_inside _ c.requires.0.0.sound _ (below c.before.before))
 
-array-read-check-area : tie.Need-array-read-check-area invariant-loop decreases-loop
-array-read-check-area c = let i = c.before.before.before in omega (arith, below i, (start i).requires.0.0.sound.few)
+array-read-check-area : tie.Need-bounds-plain-k invariant-loop-k decreases-loop-k
+array-read-check-area c = omega (arith, below c.before.before.before, c.requires.0.0.sound.few)
 
-check-area-requires : tie.Need-check-area-requires invariant-loop decreases-loop
+check-area-requires : tie.Need-check_area-v-requires invariant-loop-k decreases-loop-k
 check-area-requires c κs =
-    let i = c.before.before.before in
-    let s = (start i).requires.0.0 in
-    let body = c.before.body_at.ensures.0 in
+    let s = c.requires.0.0 in
+    let body = c.body_at-body.ensures.0 in
     rw (terms-are c, body) (
-      (record { days = s.kept.each _ (below i) }, (s.sound.body _ (below i), omega arith)),
-      (start i).requires.1.each _ i.loop-test.true,
+      (record { days = s.kept.each _ (below c.before.before.before) }, (s.sound.body _ (below c.before.before.before), omega arith)),
+      c.requires.1.each _ c.loop-k-test.true,
     )
 
-returns : tie.Need-returns invariant-loop decreases-loop
+returns : tie.Need-returns-then-number-ne0 invariant-loop-k decreases-loop-k
 returns c =
-    let i = c.before.before.before.before.before.before in
-    loop_stop _ _ _ _ _ _ i.before.loop.invariant.1 i.loop-test.true (turn c.before.before) c.before.number.ensures c.if1.true
+    loop_stop _ _ _ _ _ _ c.loop-k.invariant.1 c.loop-k-test.true (turn c.before.before) c.number.ensures c.if-number-ne0.true
 
-loop-again : tie.Need-loop-preserved invariant-loop decreases-loop
+loop-again : tie.Need-loop-k-preserved invariant-loop-k decreases-loop-k
 loop-again c =
-    let i = c.before.before.before.before.before.before in
-    (omega arith, loop_next _ _ _ _ _ _ i.before.loop.invariant.1 i.loop-test.true (turn c.before.before) c.before.number.ensures c.if1.false)
+    (omega arith, loop_next _ _ _ _ _ _ c.loop-k.invariant.1 c.loop-k-test.true (turn c.before.before) c.number.ensures c.if-number-ne0.false)
 
-returns-2 : tie.Need-returns-2 invariant-loop decreases-loop
+returns-2 : tie.Need-returns invariant-loop-k decreases-loop-k
 returns-2 c = search loop_done
 
-pub check-areas-spec : {M : Type 1} → statement M
-check-areas-spec =
-    tie.close (tie.spec invariant-loop decreases-loop loop-holds (λ c. search rules) (λ c. search rules) (λ c. search rules) word-requires (λ c. search rules)
-    body-at-requires terms-of-requires array-read-check-area check-area-requires (λ c κs. search rules) returns (λ c. search rules) (λ c. search rules) loop-again returns-2)
+pub check_areas_spec : {M : Type 1} → statement M
+check_areas_spec =
+    tie.close (tie.spec invariant-loop-k decreases-loop-k loop-holds (λ c. search rules) (λ c. search rules) (λ c. search rules) word-requires (λ c. search rules) body-at-requires terms-of-requires array-read-check-area check-area-requires (λ c κs. search rules) returns (λ c. search rules) (λ c. search rules) loop-again returns-2)

@@ -15,18 +15,19 @@ opened : (terms : Terms) (start : ℕ) (body : List ℕ) (h : ℕ)
 unfolding hour_refusal
 opened terms start body h = refl
 
-returns : tie.Need-returns
+returns : tie.Need-returns-then-number-ne0
 returns c =
-    let s = c.before.before.before.before.args in
+    let s = c.args in
     let o = opened s.terms s.start s.body.now s.h in
-    seq_stop _ _ _ _ _ o c.before.before.check-price.ensures c.before.number.ensures c.if1.true
+    seq_stop _ _ _ _ _ o c.check_price-first.ensures c.number.ensures c.if-number-ne0.true
 
-returns-2 : tie.Need-returns-2
+returns-2 : tie.Need-returns
 returns-2 c =
-    let s = c.before.before.before.before.before.args in
+    let s = c.args in
     let o = opened s.terms s.start s.body.now s.h in
-    c.check-charge.ensures ∙ sym
-    (seq_next _ _ _ _ _ o c.before.before.before.check-price.ensures c.before.before.number.ensures c.before.if1.false)
+    c.check_charge.ensures ∙ sym
+    (seq_next _ _ _ _ _ o c.check_price-first.ensures c.number.ensures c.if-number-ne0.false)
 
-pub check-hour-spec : {M : Type 1} → statement M
-check-hour-spec = tie.close (tie.spec (λ c κs. search rules) (λ c κs. search rules) returns (λ c κs. search rules) returns-2)
+pub check_hour_spec : {M : Type 1} → statement M
+check_hour_spec =
+    tie.close (tie.spec (λ c κs. search rules) (λ c κs. search rules) returns (λ c κs. search rules) returns-2)

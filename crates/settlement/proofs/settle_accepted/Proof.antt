@@ -9,46 +9,37 @@ use Rattle.settlement.proofs.Room.{needed_fits}
 use Rattle.settlement.proofs.settle_accepted.Statement.{statement}
 use Rattle.settlement.proofs.settle_accepted.Tie as tie
 
-abbrev start : tie.Else1 → tie.Start
-start c = c.before.before.before.before.before
+accepted : (c : tie.Else-number-ne0) → number_of c.answer_accepted-v.result ≡ 0
+accepted c = sym c.number.ensures ∙ c.if-number-ne0.false
 
-accepted : (c : tie.Else1) → number_of c.before.before.answer-accepted.result ≡ 0
-accepted c = sym c.before.number.ensures ∙ c.if1.false
-
-returns : tie.Need-returns
+returns : tie.Need-returns-then-number-ne0
 returns c =
-    let s = c.before.before.before.before.before.args in (
-      c.before.before.answer-accepted.ensures,
-      refused (listed s.days.now s.file.now) s.file.now _ s.statement.now (λ q. c.if1.true (c.before.number.ensures ∙ q)),
+    let s = c.args in (
+      c.answer_accepted-v.ensures,
+      refused (listed s.days.now s.file.now) s.file.now _ s.statement.now (λ q. c.if-number-ne0.true (c.number.ensures ∙ q)),
     )
 
-word-requires : tie.Need-word-requires
-word-requires c κs = let r = (start c).requires.0.sound.room in omega arith
+word-requires : tie.Need-word-n-requires
+word-requires c κs = let r = c.requires.0.sound.room in omega arith
 
-word-requires-2 : tie.Need-word-requires-2
-word-requires-2 c κs = let r = (start c.before).requires.0.sound.room in omega arith
+word-requires-2 : tie.Need-word-peak-requires
+word-requires-2 c κs = let r = c.requires.0.sound.room in omega arith
 
-write-areas-requires : tie.Need-write-areas-requires
+write-areas-requires : tie.Need-write_areas-requires
 write-areas-requires c κs =
-    let w = c.before.before in
-    let e = w.before in
-    let s = start e in
-    let f = s.args.file.now in
-    let fits = needed_fits (listed s.args.days.now f) f (length s.args.statement.now)
-    (ap number_of (sym e.before.before.answer-accepted.ensures) ∙ accepted e) in
-    ((s.pre.0, (w.word.ensures, c.before.word2.ensures)), rw w.word.ensures fits)
+    let f = c.args.file.now in
+    let fits = needed_fits (listed c.args.days.now f) f (length c.args.statement.now)
+    (ap number_of (sym c.answer_accepted-v.ensures) ∙ accepted c.before.before.before) in
+    ((c.requires.0, (c.word-n.ensures, c.word-peak.ensures)), rw c.word-n.ensures fits)
 
-returns-2 : tie.Need-returns-2
+returns-2 : tie.Need-returns
 returns-2 c =
-    let w = c.before.before.before.before in
-    let e = w.before in
-    let s = (start e).args in (
-      e.before.before.answer-accepted.ensures,
-      c.before.write-areas.ensures
-          ∙ rw w.word.ensures (settled (listed s.days.now s.file.now) s.file.now _ s.statement.now (accepted e)),
+    let s = c.args in (
+      c.answer_accepted-v.ensures,
+      c.write_areas.ensures
+          ∙ rw c.word-n.ensures (settled (listed s.days.now s.file.now) s.file.now _ s.statement.now (accepted c.before.before.before.before.before)),
     )
 
-pub settle-accepted-spec : {M : Type 1} → statement M
-settle-accepted-spec =
-    tie.close (tie.spec (λ c κs. search rules) (λ c κs. search rules) returns word-requires (λ c. search rules) word-requires-2 write-areas-requires
-    (λ c. search rules) returns-2)
+pub settle_accepted_spec : {M : Type 1} → statement M
+settle_accepted_spec =
+    tie.close (tie.spec (λ c κs. search rules) (λ c κs. search rules) returns word-requires (λ c. search rules) word-requires-2 write-areas-requires (λ c. search rules) returns-2)

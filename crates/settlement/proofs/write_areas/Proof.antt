@@ -17,27 +17,23 @@ use Rattle.settlement.proofs.Accepted.{terms_there}
 use Rattle.settlement.proofs.write_areas.Statement.{statement}
 use Rattle.settlement.proofs.write_areas.Tie as tie
 
-abbrev invariant-loop : tie.invariant-loop
-invariant-loop peak days file n statement₀ room₀ to₀ k₀ statement room to k =
+abbrev invariant-loop-k : tie.invariant-loop-k
+invariant-loop-k peak days file n statement₀ room₀ to₀ k₀ statement room to k =
     (k ≤ n) × (to ≡ needed_to file k) × (statement ≡ statement_to (listed days file) file k ++ drop to statement₀)
     × (length statement ≡ length statement₀) × (length room ≡ 8 * area_numbers most_coordinators)
 
-abbrev decreases-loop : tie.decreases-loop
-decreases-loop peak days file n statement₀ room₀ to₀ k₀ statement room to k = n - k
+abbrev decreases-loop-k : tie.decreases-loop-k
+decreases-loop-k peak days file n statement₀ room₀ to₀ k₀ statement room to k = n - k
 
-abbrev start : tie.In-loop invariant-loop decreases-loop → tie.Start invariant-loop decreases-loop
-start c = c.before.before.before.before
-
-below : (c : tie.In-loop invariant-loop decreases-loop) → c.before.loop.k < areas_of (start c).args.file.now
-below c = omega (arith, (start c).requires.0.1.0, c.loop-test.true)
+below : (c : tie.In-loop-k invariant-loop-k decreases-loop-k) → c.loop-k.k < areas_of c.args.file.now
+below c = omega (arith, c.requires.0.1.0, c.loop-k-test.true)
 
 -- the part of area k lies within the statement
-room : (c : tie.In-loop invariant-loop decreases-loop) →
-    c.before.loop.to + area_numbers (coordinators_of (body_at (start c).args.file.now c.before.loop.k)) ≤ length c.before.loop.statement
+room : (c : tie.In-loop-k invariant-loop-k decreases-loop-k) →
+    c.loop-k.to + area_numbers (coordinators_of (body_at c.args.file.now c.loop-k.k)) ≤ length c.loop-k.statement
 room c =
-    let s = start c in
-    let l = c.before.loop in
-    omega (arith, l.invariant.1, l.invariant.3, needed_within s.args.file.now l.k s.args.n c.loop-test.true, s.pre.1)
+    let l = c.loop-k in
+    omega (arith, l.invariant.1, l.invariant.3, needed_within c.args.file.now l.k c.args.n c.loop-k-test.true, c.requires.1)
 
 step : (days : ℕ → ℕ) (file : List ℕ) (k to m : ℕ) (before xs more : List ℤ) → length (statement_to days file k) ≡ to
     → xs ≡ statement_to days file k ++ drop to before → more ≡ block (terms_at days file k) (body_at file k) ++ drop m (take (length xs - to) (drop to xs))
@@ -46,105 +42,88 @@ step days file k to m before xs more long stands came =
     lent_back (statement_to days file k) before (block (terms_at days file k) (body_at file k)) xs more to m long stands came
     ∙ ap (λ w. w ++ drop (to + m) before) (sym (statement_more file days k))
 
-loop-holds : tie.Need-loop-init invariant-loop decreases-loop
+loop-holds : tie.Need-loop-k-init invariant-loop-k decreases-loop-k
 unfolding needed_to statement_to
 loop-holds c = (omega arith, refl, refl, refl, refl)
 
-body-at-requires : tie.Need-body-at-requires invariant-loop decreases-loop
-body-at-requires c κs = let i = c in placed _ (start i).requires.0.0.sound _ (below i)
+body-at-requires : tie.Need-body_at-body-requires invariant-loop-k decreases-loop-k
+body-at-requires c κs = let i = c in placed _ i.before.requires.0.0.sound _ (below i)
 
-terms-of-requires : tie.Need-terms-of-requires invariant-loop decreases-loop
+terms-of-requires : tie.Need-terms_of-terms-requires invariant-loop-k decreases-loop-k
 terms-of-requires c κs =
-    let i = c.before in
-    rw c.body_at.ensures.0 (head_inside _ (start i).requires.0.0.sound _ (below i))
+    rw c.body_at-body.ensures.0 (head_inside _ c.requires.0.0.sound _ (below c.before))
 
-terms-are : (c : tie.After-terms-of invariant-loop decreases-loop) →
-    let i = c.before.before in
-    let f = (start i).args.file.now in
-    c.terms-of.result ≡ terms_at (listed (start i).args.days.now f) f i.before.loop.k
+terms-are : (c : tie.After-terms_of-terms invariant-loop-k decreases-loop-k) →
+    let f = c.args.file.now in
+    c.terms_of-terms.result ≡ terms_at (listed c.args.days.now f) f c.loop-k.k
 terms-are c =
-    let s = start c.before.before in
-    terms_there s.args.days.now s.args.file.now _ _ _ _ c.terms-of.ensures s.pre.0.1.1 c.before.body_at.ensures.0
+    terms_there c.args.days.now c.args.file.now _ _ _ _ c.terms_of-terms.ensures c.requires.0.1.1 c.body_at-body.ensures.0
 
-slice-aggregate-area-into-numbers : tie.Need-slice-aggregate-area-into-numbers invariant-loop decreases-loop
-slice-aggregate-area-into-numbers c = sym c.before.before.before.before.loop.invariant.4
+slice-aggregate-area-into-numbers : tie.Need-slice_bounds-area_into_numbers-end invariant-loop-k decreases-loop-k
+slice-aggregate-area-into-numbers c = sym c.loop-k.invariant.4
 
-mul-area-into-numbers : tie.Need-overflow-mul-area-into-numbers invariant-loop decreases-loop
+mul-area-into-numbers : tie.Need-offset_bounds-statement-to invariant-loop-k decreases-loop-k
 mul-area-into-numbers c = let r = room c.before.before.before in omega arith
 
-sub-area-into-numbers : tie.Need-overflow-sub-area-into-numbers invariant-loop decreases-loop
+sub-area-into-numbers : tie.Need-slice_bounds-area_into_numbers-count invariant-loop-k decreases-loop-k
 sub-area-into-numbers c = let r = room c.before.before.before in omega arith
 
-part-area-into-numbers-start : tie.Need-slice-bounds-area-into-numbers-start invariant-loop decreases-loop
+part-area-into-numbers-start : tie.Need-slice_bounds-area_into_numbers-start invariant-loop-k decreases-loop-k
 part-area-into-numbers-start c = let r = room c.before.before.before in omega arith
 
-area-into-numbers-requires : tie.Need-area-into-numbers-requires invariant-loop decreases-loop
+area-into-numbers-requires : tie.Need-area_into_numbers-requires invariant-loop-k decreases-loop-k
 area-into-numbers-requires c κs =
-    let t = c.before.before in
-    let i = t.before.before in
-    let s = (start i).requires.0.0 in
-    rw (terms-are t, t.before.body_at.ensures.0) (
-      (record { days = s.kept.each _ (below i) }, s.sound.body _ (below i)),
-      (omega (arith, i.before.loop.invariant.4), simp (length-take, length-drop) (omega (arith, room i))),
+    let s = c.requires.0.0 in
+    rw (terms-are c.before.before, c.body_at-body.ensures.0) (
+      (record { days = s.kept.each _ (below c.before.before.before.before) }, s.sound.body _ (below c.before.before.before.before)),
+      (omega (arith, c.loop-k.invariant.4), simp (length-take, length-drop) (omega (arith, room c.before.before.before.before))),
     )
 
 -- back from K of the area to its turn
-abbrev turn : tie.After-word invariant-loop decreases-loop → tie.In-loop invariant-loop decreases-loop
-turn c = c.before.before.before.before.before.before.before.before
+count : (c : tie.After-word invariant-loop-k decreases-loop-k) →
+    c.word.result ≡ coordinators_of (body_at c.args.file.now c.loop-k.k)
+count c = c.word.ensures ∙ ap coordinators_of c.body_at-body.ensures.0
 
-count : (c : tie.After-word invariant-loop decreases-loop) →
-    let i = turn c in
-    c.word.result ≡ coordinators_of (body_at (start i).args.file.now i.before.loop.k)
-count c = c.word.ensures ∙ ap coordinators_of c.before.before.before.before.before.before.before.body_at.ensures.0
-
-word-requires : tie.Need-word-requires invariant-loop decreases-loop
+word-requires : tie.Need-word-requires invariant-loop-k decreases-loop-k
 word-requires c κs =
-    let i = c.before.before.before.before.before.before.before in
-    rw c.before.before.before.before.before.before.body_at.ensures.0 (head_inside _ (start i).requires.0.0.sound _ (below i))
+    rw c.body_at-body.ensures.0 (head_inside _ c.requires.0.0.sound _ (below c.before.before.before.before.before.before.before))
 
-area-numbers-requires : tie.Need-area-numbers-requires invariant-loop decreases-loop
-area-numbers-requires c κs = rw (count c) (area_few _ (start (turn c)).pre.0.0.sound _ (below (turn c)))
+area-numbers-requires : tie.Need-area_numbers-to-requires invariant-loop-k decreases-loop-k
+area-numbers-requires c κs = rw (count c) (area_few _ c.requires.0.0.sound _ (below c.before.before.before.before.before.before.before.before))
 
-add-to : tie.Need-overflow-add-to invariant-loop decreases-loop
+add-to : tie.Need-overflow_add-to invariant-loop-k decreases-loop-k
 add-to c =
-    let w = c.before in
-    let i = turn w in
-    let sound = (start i).pre.0.0.sound in
-    let l = i.before.loop in
-    let few = area_few _ sound l.k (below i) in
-    let to = needed_small _ sound l.k (omega (arith, below i)) in
-    omega (arith, l.inv.1, to, sound.few, below i, c.area-numbers.ensures, count w, few)
+    let sound = c.requires.0.0.sound in
+    let l = c.loop-k in
+    let few = area_few _ sound l.k (below c.before.before.before.before.before.before.before.before.before) in
+    let to = needed_small _ sound l.k (omega (arith, below c.before.before.before.before.before.before.before.before.before)) in
+    omega (arith, l.invariant.1, to, sound.few, below c.before.before.before.before.before.before.before.before.before, c.area_numbers-to.ensures, count c.before, few)
 
-loop-again : tie.Need-loop-preserved invariant-loop decreases-loop
+loop-again : tie.Need-loop-k-preserved invariant-loop-k decreases-loop-k
 loop-again c =
-    let i = turn c.before in
-    let s = start i in
-    let a = s.args in
+    let a = c.args in
     let f = a.file.now in
-    let l = i.before.loop in
-    let n = c.area-numbers.ensures ∙ ap area_numbers (count c.before) in
-    let long = statement_length f s.pre.0.0.sound (listed a.days.now f) l.k (omega (arith, below i)) in
-    let b = c.before.before.before.before.before.before.before in (
+    let l = c.loop-k in
+    let n = c.area_numbers-to.ensures ∙ ap area_numbers (count c.before) in
+    let long = statement_length f c.requires.0.0.sound (listed a.days.now f) l.k (omega (arith, below c.before.before.before.before.before.before.before.before.before)) in (
       omega arith,
-      rw n (omega (arith, needed_more f l.k, l.inv.1)),
+      rw n (omega (arith, needed_more f l.k, l.invariant.1)),
       rw n
           (step (listed a.days.now f) f l.k l.to (area_numbers (coordinators_of (body_at f l.k))) a.statement.now l.statement _
-          (long ∙ sym l.inv.1) l.inv.2 (rw (terms-are b, b.before.body_at.ensures.0) at c.before.before.before.before.area-into-numbers.ensures)),
+          (long ∙ sym l.invariant.1) l.invariant.2 (rw (terms-are c.before.before.before.before.before.before.before, c.body_at-body.ensures.0) at c.area_into_numbers.ensures)),
       omega arith,
       omega arith,
     )
 
-same_length : tie.Need-same-length invariant-loop decreases-loop
-same_length c = c.before.loop.invariant.3
+same_length : tie.Need-shape_of-statement invariant-loop-k decreases-loop-k
+same_length c = c.loop-k.invariant.3
 
-returns : tie.Need-returns invariant-loop decreases-loop
+returns : tie.Need-returns invariant-loop-k decreases-loop-k
 returns c =
-    let l = c.before.loop in
-    let e : l.k ≡ c.before.before.before.before.args.n = omega arith in
+    let l = c.loop-k in
+    let e : l.k ≡ c.args.n = omega arith in
     rw (l.invariant.1, e) at l.invariant.2
 
-pub write-areas-spec : {M : Type 1} → statement M
-write-areas-spec =
-    tie.close (tie.spec invariant-loop decreases-loop loop-holds body-at-requires terms-of-requires slice-aggregate-area-into-numbers mul-area-into-numbers
-    sub-area-into-numbers part-area-into-numbers-start (λ c. search rules) area-into-numbers-requires word-requires (λ c. search rules)
-    area-numbers-requires add-to (λ c. search rules) (λ c. search rules) loop-again same_length returns)
+pub write_areas_spec : {M : Type 1} → statement M
+write_areas_spec =
+    tie.close (tie.spec invariant-loop-k decreases-loop-k loop-holds body-at-requires terms-of-requires slice-aggregate-area-into-numbers mul-area-into-numbers sub-area-into-numbers part-area-into-numbers-start (λ c. search rules) area-into-numbers-requires word-requires (λ c. search rules) area-numbers-requires add-to (λ c. search rules) (λ c. search rules) loop-again same_length returns)

@@ -1,5 +1,6 @@
 // Settles a month book into one statement: the call `settle_month`.
 #![tactic(auto)]
+
 ghost use Rattle.std.specs.Prelude.{◌≡◌, ◌++◌, ◌≤◌, min, length, drop};
 ghost use Rattle.settlement.specs.Settlement.{settle_of};
 ghost use Rattle.book.specs.Read.{count_of, days_of};

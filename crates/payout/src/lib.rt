@@ -1,5 +1,6 @@
 // Pays out under 8088 what was collected under 8080: the call `pay_out`.
 #![tactic(auto)]
+
 ghost use Rattle.std.specs.Prelude.{◌≡◌, ◌++◌, ◌+◌, ◌*◌, ◌≤◌, ◌<◌, length, drop};
 ghost use Rattle.exact.specs.Total.{total};
 ghost use Rattle.limits.specs.Ranges.{day_hours, day_payments, proved_areas};

@@ -16,41 +16,36 @@ use Rattle.month_rules.proofs.Rule.{opened}
 use Rattle.month.proofs.admit.Statement.{statement}
 use Rattle.month.proofs.admit.Tie as tie
 
-abbrev start : tie.Else1 → tie.Start
-start c = c.before.before.before.before
-
-accepted : (c : tie.Else1) → number_of (book_rule (start c).args.book.now) ≡ 0
-accepted c = sym (ap number_of c.before.before.check.ensures) ∙ sym c.before.number.ensures ∙ c.if1.false
+accepted : (c : tie.Else-number-ne0) → number_of (book_rule c.args.book.now) ≡ 0
+accepted c = sym (ap number_of c.check-v.ensures) ∙ sym c.number.ensures ∙ c.if-number-ne0.false
 
 -- past the check of the book the places decide
-past : (c : tie.Else1) →
-    let a = (start c).args in
+past : (c : tie.Else-number-ne0) →
+    let a = c.args in
     month_rule a.book.now a.places ≡ (rule leb (count_of a.book.now) a.places else DaysDoNotFit then Accepted)
 past c =
-    let a = (start c).args in
-    seq_next _ _ _ _ _ (opened a.book.now a.places) c.before.before.check.ensures c.before.number.ensures c.if1.false
+    let a = c.args in
+    seq_next _ _ _ _ _ (opened a.book.now a.places) c.check-v.ensures c.number.ensures c.if-number-ne0.false
 
-returns : tie.Need-returns
+returns : tie.Need-returns-then-number-ne0
 returns c =
-    let a = c.before.before.before.before.args in
-    seq_stop _ _ _ _ _ (opened a.book.now a.places) c.before.before.check.ensures c.before.number.ensures c.if1.true
+    let a = c.args in
+    seq_stop _ _ _ _ _ (opened a.book.now a.places) c.check-v.ensures c.number.ensures c.if-number-ne0.true
 
 word-requires : tie.Need-word-requires
 word-requires c κs = let s = sound_book _ (accepted c) in omega (arith, s.whole)
 
-returns-2 : tie.Need-returns-2
+returns-2 : tie.Need-returns-then-places-word
 returns-2 c =
-    let e = c.before.before in
-    let a = (start e).args in
-    sym (past e ∙ rw (lt-leb (count_of a.book.now) a.places (rw c.before.word.ensures at c.if2.true)))
+    let a = c.args in
+    sym (past c.before.before ∙ rw (lt-leb (count_of a.book.now) a.places (rw c.word.ensures at c.if-places-word.true)))
 
-returns-3 : tie.Need-returns-3
+returns-3 : tie.Need-returns
 returns-3 c =
-    let e = c.before.before in
-    let a = (start e).args in
-    accepted_alone _ (ap number_of e.before.before.check.ensures ∙ accepted e)
-    ∙ sym (past e ∙ rw (le-leb (count_of a.book.now) a.places (rw c.before.word.ensures at c.if2.false)))
+    let a = c.args in
+    accepted_alone _ (ap number_of c.check-v.ensures ∙ accepted c.before.before)
+    ∙ sym (past c.before.before ∙ rw (le-leb (count_of a.book.now) a.places (rw c.word.ensures at c.if-places-word.false)))
 
-pub admit-spec : {M : Type 1} → statement M
-admit-spec =
+pub admit_spec : {M : Type 1} → statement M
+admit_spec =
     tie.close (tie.spec (λ c κs. search rules) (λ c κs. search rules) returns word-requires (λ c. search rules) returns-2 returns-3)

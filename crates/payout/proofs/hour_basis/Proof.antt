@@ -22,51 +22,47 @@ next_sum : (numbers : ℕ → ℕ) (k n before : ℕ) {whole : ℕ} → k < n �
 unfolding total
 next_sum numbers k n before below e = add_assoc before (numbers k) (total (each numbers (k + 1) (n - (k + 1)))) ∙ rw (each_next numbers k n below) at e
 
-abbrev invariant-loop : tie.invariant-loop
-invariant-loop basis n h sum₀ k₀ before k =
+abbrev invariant-loop-k : tie.invariant-loop-k
+invariant-loop-k basis n h sum₀ k₀ before k =
     (k ≤ n) × (before ≤ 2 ^ 32 * k) × (before + total (each (numbers_at basis h) k (n - k)) ≡ total (basis_at basis n h))
 
-abbrev decreases-loop : tie.decreases-loop
-decreases-loop basis n h sum₀ k₀ before k = n - k
+abbrev decreases-loop-k : tie.decreases-loop-k
+decreases-loop-k basis n h sum₀ k₀ before k = n - k
 
-inside : (c : tie.In-loop invariant-loop decreases-loop) →
-    let s = c.before.before in
-    day_hours * c.before.loop.k + s.args.h < length s.args.basis.now
-inside c = let p = c.before.before.requires in omega (arith, p.1.0, p.1.1, c.loop-test.true)
+inside : (c : tie.In-loop-k invariant-loop-k decreases-loop-k) →
+    day_hours * c.loop-k.k + c.args.h < length c.args.basis.now
+inside c = let p = c.requires in omega (arith, p.1.0, p.1.1, c.loop-k-test.true)
 
-loop-holds : tie.Need-loop-init invariant-loop decreases-loop
+loop-holds : tie.Need-loop-k-init invariant-loop-k decreases-loop-k
 loop-holds c =
     let e : c.args.n - 0 ≡ c.args.n = omega arith in
     (omega arith, omega arith, rw e (zero-add _))
 
-number_small : (c : tie.After-shared-slice-known invariant-loop decreases-loop) →
-    let a = c.before.before.before.args in
-    numbers_at a.basis.now a.h c.before.before.loop.k < 2 ^ 32
-number_small c = let a = c.before.before.before.args in omega (arith, c.shared-slice-known.given (day_hours * c.before.before.loop.k + a.h))
+number_small : (c : tie.After-shared_slice_known-1 invariant-loop-k decreases-loop-k) →
+    let a = c.args in
+    numbers_at a.basis.now a.h c.loop-k.k < 2 ^ 32
+number_small c = let a = c.args in omega (arith, c.shared_slice_known-1.given (day_hours * c.loop-k.k + a.h))
 
-add-sum : tie.Need-overflow-add-sum-2 invariant-loop decreases-loop
+add-sum : tie.Need-overflow_add-sum-in-loop-k invariant-loop-k decreases-loop-k
 add-sum c =
-    let i = c.before in
-    omega (arith, number_small c, i.before.loop.invariant.1, i.before.before.requires.0, i.loop-test.true)
+    omega (arith, number_small c, c.loop-k.invariant.1, c.requires.0, c.loop-k-test.true)
 
-loop-again : tie.Need-loop-preserved invariant-loop decreases-loop
+loop-again : tie.Need-loop-k-preserved invariant-loop-k decreases-loop-k
 loop-again c =
-    let i = c.before in
-    let a = i.before.before.args in
-    let l = i.before.loop in (
+    let a = c.args in
+    let l = c.loop-k in (
       omega arith,
       omega (arith, l.invariant.1, number_small c),
-      next_sum (numbers_at a.basis.now a.h) l.k a.n l.sum i.loop-test.true l.invariant.2,
+      next_sum (numbers_at a.basis.now a.h) l.k a.n l.sum c.loop-k-test.true l.invariant.2,
     )
 
-returns : tie.Need-returns invariant-loop decreases-loop
+returns : tie.Need-returns invariant-loop-k decreases-loop-k
 unfolding total
 returns c =
-    let a = c.before.before.args in
-    let l = c.before.loop in
-    omega (arith, l.invariant.2, rw (each_done (numbers_at a.basis.now a.h) l.k a.n c.loop-test.false) at l.invariant.2)
+    let a = c.args in
+    let l = c.loop-k in
+    omega (arith, l.invariant.2, rw (each_done (numbers_at a.basis.now a.h) l.k a.n c.loop-k-test.false) at l.invariant.2)
 
-pub hour-basis-spec : {M : Type 1} → statement M
-hour-basis-spec =
-    tie.close (tie.spec invariant-loop decreases-loop loop-holds (λ c. omega (arith, inside c)) (λ c. omega (arith, inside c)) (λ c. omega (arith, inside c))
-    (λ c. inside c.before) (λ c. omega (arith, number_small c)) add-sum (λ c. search rules) (λ c. search rules) loop-again returns)
+pub hour_basis_spec : {M : Type 1} → statement M
+hour_basis_spec =
+    tie.close (tie.spec invariant-loop-k decreases-loop-k loop-holds (λ c. omega (arith, inside c)) (λ c. omega (arith, inside c)) (λ c. omega (arith, inside c)) (λ c. inside c.before) (λ c. omega (arith, number_small c)) add-sum (λ c. search rules) (λ c. search rules) loop-again returns)

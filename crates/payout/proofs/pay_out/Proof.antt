@@ -35,79 +35,66 @@ paid_same : {bases bases' : List ℕ} {n n' : ℕ} {table table' : List ℤ} →
     → paid_to bases n day_payments table ≡ paid_to bases' n' day_payments table'
 paid_same e f g = rw (e, f, g)
 
-abbrev start : tie.Else1 → tie.Start
-start c = c.before.before.before.before.before
+accepted : (c : tie.Else-number-ne0) → let a = c.args in number_of (pay_out_rule a.file.now a.basis.now (length a.payments.now)) ≡ 0
+accepted c = sym (ap number_of c.judge-v.ensures) ∙ sym c.number.ensures ∙ c.if-number-ne0.false
 
-accepted : (c : tie.Else1) → let a = (start c).args in number_of (pay_out_rule a.file.now a.basis.now (length a.payments.now)) ≡ 0
-accepted c = sym (ap number_of c.before.before.judge.ensures) ∙ sym c.before.number.ensures ∙ c.if1.false
-
-returns : tie.Need-returns
+returns : tie.Need-returns-then-number-ne0
 returns c =
-    let a = c.before.before.before.before.before.args in (
-      c.before.before.judge.ensures,
-      sym (refused a.file.now a.basis.now _ a.payments.now (λ q. c.if1.true (c.before.number.ensures ∙ q))),
+    let a = c.args in (
+      c.judge-v.ensures,
+      sym (refused a.file.now a.basis.now _ a.payments.now (λ q. c.if-number-ne0.true (c.number.ensures ∙ q))),
     )
 
-word-requires : tie.Need-word-requires
-word-requires c κs = let a = (start c).args in omega (arith, (sound_file _ (file_accepted a.file.now a.basis.now _ (accepted c))).room)
+word-requires : tie.Need-word-n-requires
+word-requires c κs = let a = c.args in omega (arith, (sound_file _ (file_accepted a.file.now a.basis.now _ (accepted c))).room)
 
-collect-areas-requires : tie.Need-collect-areas-requires
+collect-areas-requires : tie.Need-collect_areas-requires
 collect-areas-requires c κs =
-    let w = c.before in
-    let e = w.before in
-    let a = (start e).args in
-    let z = accepted e in (
+    let a = c.args in
+    let z = accepted c.before.before in (
       sound_file _ (file_accepted a.file.now a.basis.now _ z),
-      (w.word.ensures, omega (arith, w.word.ensures, room_enough a.file.now a.basis.now _ z)),
+      (c.word-n.ensures, omega (arith, c.word-n.ensures, room_enough a.file.now a.basis.now _ z)),
     )
 
-count-bases-requires : tie.Need-count-bases-requires
+count-bases-requires : tie.Need-count_bases-requires
 count-bases-requires c κs =
-    let w = c.before.before.before.before.before.before.before in
-    let e = w.before in
-    let a = (start e).args in
+    let a = c.args in
     let f = a.file.now in
     let b = a.basis.now in
-    let z = accepted e in
+    let z = accepted c.before.before.before.before.before.before.before in
     let file = file_accepted f b _ z in (
-      (sound_file f file, w.word.ensures),
-      (omega (arith, w.word.ensures, basis_long b (areas_of f) (basis_accepted f b _ z)), omega (arith, w.word.ensures, areas_few f file)),
+      (sound_file f file, c.word-n.ensures),
+      (omega (arith, c.word-n.ensures, basis_long b (areas_of f) (basis_accepted f b _ z)), omega (arith, c.word-n.ensures, areas_few f file)),
     )
 
 -- the table and the bases that are lent to be paid out
-table_is : (c : tie.After-collect-areas) →
-    let a = (start c.before.before.before).args in
+table_is : (c : tie.After-collect_areas) →
+    let a = c.args in
     let n = areas_of a.file.now in
-    c.collect-areas.new.1.1.0 ≡ areas_to (collected_from a.file.now) n ++ drop (day_payments * n) a.payments.now
+    c.collect_areas.new.collected ≡ areas_to (collected_from a.file.now) n ++ drop (day_payments * n) a.payments.now
 table_is c =
-    let w = c.before.before in
-    let a = (start w.before).args in
-    c.collect-areas.ensures ∙ ap (λ n. areas_to (collected_from a.file.now) n ++ drop (day_payments * n) a.payments.now) w.word.ensures
+    let a = c.args in
+    c.collect_areas.ensures ∙ ap (λ n. areas_to (collected_from a.file.now) n ++ drop (day_payments * n) a.payments.now) c.word-n.ensures
 
-abbrev to_table : tie.After-count-bases → tie.After-collect-areas
-to_table c = c.before.before.before.before.before.before
-
-bases-are : (c : tie.After-count-bases) →
-    let a = (start (to_table c).before.before.before).args in
+bases-are : (c : tie.After-count_bases) →
+    let a = c.args in
     let n = areas_of a.file.now in
-    c.count-bases.new.1.1.1.0 ≡ areas_to (basis_of a.file.now a.basis.now) n ++ drop (day_payments * n) no_bases
+    c.count_bases.new.counted ≡ areas_to (basis_of a.file.now a.basis.now) n ++ drop (day_payments * n) no_bases
 unfolding no_bases
 bases-are c =
-    let w = (to_table c).before.before in
-    let a = (start w.before).args in
-    c.count-bases.ensures ∙ ap (λ n. areas_to (basis_of a.file.now a.basis.now) n ++ drop (day_payments * n) no_bases) w.word.ensures
+    let a = c.args in
+    c.count_bases.ensures ∙ ap (λ n. areas_to (basis_of a.file.now a.basis.now) n ++ drop (day_payments * n) no_bases) c.word-n.ensures
 
 -- it has a row for each area and one for the rests
-rows : (c : tie.After-collect-areas) →
-    let a = (start c.before.before.before).args in
+rows : (c : tie.After-collect_areas) →
+    let a = c.args in
     let n = areas_of a.file.now in
     day_payments * (n + 1) ≤ length (areas_to (collected_from a.file.now) n ++ drop (day_payments * n) a.payments.now)
 rows c =
-    let e = c.before.before.before in
-    let a = (start e).args in
+    let a = c.args in
     let f = a.file.now in
     let n = areas_of f in
-    let room = room_enough f a.basis.now _ (accepted e) in
+    let room = room_enough f a.basis.now _ (accepted c.before.before.before) in
     omega (
       arith,
       length-append (areas_to (collected_from f) n) (drop (day_payments * n) a.payments.now),
@@ -116,17 +103,15 @@ rows c =
     )
 
 -- the table, paid out over the areas' bases, is the payments, whatever stands behind the bases
-paid_out : (c : tie.After-collect-areas) (behind : List ℕ) →
-    let e = c.before.before.before in
-    let a = (start e).args in
+paid_out : (c : tie.After-collect_areas) (behind : List ℕ) →
+    let a = c.args in
     let f = a.file.now in
     let n = areas_of f in
     paid_to (areas_to (basis_of f a.basis.now) n ++ behind) n day_payments
     (areas_to (collected_from f) n ++ drop (day_payments * n) a.payments.now)
-    ≡ payments_after f a.basis.now e.before.before.judge.result a.payments.now
+    ≡ payments_after f a.basis.now c.judge-v.result a.payments.now
 paid_out c behind =
-    let e = c.before.before.before in
-    let a = (start e).args in
+    let a = c.args in
     let f = a.file.now in
     let basis = a.basis.now in
     let n = areas_of f in
@@ -135,56 +120,42 @@ paid_out c behind =
     drop-drop day_payments (day_payments * n) a.payments.now ∙ ap (λ m. drop m a.payments.now) end in
     all_paid f basis _ behind (rows c)
     ∙ ap (λ l. payments_of f basis ++ l) left
-    ∙ sym (paid_out_then f basis _ a.payments.now (sym e.before.number.ensures ∙ e.if1.false))
+    ∙ sym (paid_out_then f basis _ a.payments.now (sym c.number.ensures ∙ c.if-number-ne0.false))
 
-nothing-collected-requires : tie.Need-nothing-collected-requires
+nothing-collected-requires : tie.Need-nothing_collected-requires
 nothing-collected-requires c κs =
-    let t = c.before.before in
-    omega (arith, rows t, ap length (table_is t), t.before.before.word.ensures)
+    omega (arith, rows c.before, ap length (table_is c.before), c.word-n.ensures)
 
-clear-rests-requires : tie.Need-clear-rests-requires
+clear-rests-requires : tie.Need-clear_rests-requires
 clear-rests-requires c κs =
-    let t = c.before.before.before.before.before in
-    omega (arith, rows t, ap length (table_is t), t.before.before.word.ensures)
+    omega (arith, rows c.before.before.before.before, ap length (table_is c.before.before.before.before), c.word-n.ensures)
 
 -- nothing was collected: the same as if the table were paid out over the areas' bases
-returns-2 : tie.Need-returns-2
+returns-2 : tie.Need-returns-then-nothing_collected
 returns-2 c =
-    let none = c.before.before.before in
-    let t = none.before.before.before.before in
-    let w = t.before.before in
-    let a = (start w.before).args in
+    let a = c.args in
     let bases = areas_to (basis_of a.file.now a.basis.now) (areas_of a.file.now) ++ [] in (
-      w.before.before.before.judge.ensures,
-      c.before.clear-rests.ensures
-          ∙ sym (nothing_paid bases _ _ (none.before.nothing-collected.ensures.0 none.if2.true))
-          ∙ paid_same refl w.word.ensures (table_is t)
-          ∙ paid_out t [],
+      c.judge-v.ensures,
+      c.clear_rests.ensures
+          ∙ sym (nothing_paid bases _ _ (c.nothing_collected.ensures.0 c.if-nothing_collected.true))
+          ∙ paid_same refl c.word-n.ensures (table_is c.before.before.before.before.before.before)
+          ∙ paid_out c.before.before.before.before.before.before [],
     )
 
-pay-columns-requires : tie.Need-pay-columns-requires
+pay-columns-requires : tie.Need-pay_columns-requires
 pay-columns-requires c κs =
-    let b = c.before.before.before in
-    let t = to_table b in
-    let w = t.before.before in
-    let e = w.before in
-    let a = (start e).args in
+    let a = c.args in
     let f = a.file.now in
     let basis = a.basis.now in
-    kept_there (bases-are b) w.word.ensures (table_is t)
-    (table_kept f basis _ _ (file_accepted f basis _ (accepted e)) (basis_small basis (areas_of f) (basis_accepted f basis _ (accepted e))) (rows t))
+    kept_there (bases-are c.before.before.before) c.word-n.ensures (table_is c.before.before.before.before.before.before.before.before)
+    (table_kept f basis _ _ (file_accepted f basis _ (accepted c.before.before.before.before.before.before.before.before.before.before.before)) (basis_small basis (areas_of f) (basis_accepted f basis _ (accepted c.before.before.before.before.before.before.before.before.before.before.before))) (rows c.before.before.before.before.before.before.before.before))
 
-returns-3 : tie.Need-returns-3
-returns-3 c =
-    let b = c.before.before.before.before.before in
-    let t = to_table b in
-    let w = t.before.before in (
-      w.before.before.before.judge.ensures,
-      c.before.pay-columns.ensures ∙ paid_same (bases-are b) w.word.ensures (table_is t) ∙ paid_out t _,
-    )
+returns-3 : tie.Need-returns
+returns-3 c = (
+  c.judge-v.ensures,
+  c.pay_columns.ensures ∙ paid_same (bases-are c.before.before.before.before.before) c.word-n.ensures (table_is c.before.before.before.before.before.before.before.before.before.before) ∙ paid_out c.before.before.before.before.before.before.before.before.before.before _,
+)
 
-pub pay-out-spec : {M : Type 1} → statement M
-pay-out-spec =
-    tie.close (tie.spec (λ c κs. search rules) (λ c κs. search rules) returns word-requires (λ c. search rules) collect-areas-requires
-    nothing-collected-requires clear-rests-requires (λ c. search rules) returns-2 (λ c. refl) count-bases-requires (λ c. search rules)
-    pay-columns-requires (λ c. search rules) returns-3)
+pub pay_out_spec : {M : Type 1} → statement M
+pay_out_spec =
+    tie.close (tie.spec (λ c κs. search rules) (λ c κs. search rules) returns word-requires (λ c. search rules) collect-areas-requires nothing-collected-requires clear-rests-requires (λ c. search rules) returns-2 (λ c. refl) count-bases-requires (λ c. search rules) pay-columns-requires (λ c. search rules) returns-3)

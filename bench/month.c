@@ -22,7 +22,7 @@
 #define MOST_NUMBERS (MOST_DAYS * RSE8080_MOST_NUMBERS)
 #define MOST_BOOK_BYTES (4u * (2u + 3u * MOST_DAYS) + MOST_DAYS * RSE8080_MOST_FILE_BYTES)
 
-/* The calls as `rt staticlib month_timing` gives them to C: each answers the number of its refusal. */
+/* The calls as the library of crates/month_timing gives them to C: each answers the number of its refusal. */
 uint32_t month_timing_settle(const uint8_t *book, size_t book_len, int64_t *statement, size_t statement_len, uint64_t *table, size_t table_len);
 uint32_t month_timing_add_day(uint8_t *book, size_t book_len, const uint8_t *file, size_t file_len);
 uint32_t month_timing_withdraw_day(uint8_t *book, size_t book_len, uint32_t date);

@@ -21,7 +21,7 @@
 #define MOST_BASIS (24 * MOST_AREAS)
 #define MOST_PAYMENTS (48 * MOST_AREAS + 48)
 
-/* The call as `rt staticlib payout_timing` gives it to C: it answers the number of its refusal. */
+/* The call as the library of crates/payout_timing gives it to C: it answers the number of its refusal. */
 uint32_t payout_timing_pay_out(const uint8_t *file, size_t file_len, const uint32_t *basis, size_t basis_len, int64_t *payments, size_t payments_len);
 
 typedef uint64_t pay_out_t(void);

@@ -1,6 +1,6 @@
 /* rse8080.h - settlement of charge code 8080 (resource sufficiency surcharges), one call.
  *
- * Link with librse8080.a, which `rt staticlib rse8080` writes to target/staticlib/ (x86-64, System V calling convention).
+ * Link with librse8080.a, which `make -C examples/host archive` writes to target/staticlib/ (x86-64, System V calling convention).
  * It needs nothing but memcpy and memset.
  */
 #ifndef RSE8080_H

@@ -2,6 +2,7 @@
 // All that is decided is decided by `settlement::settle`; amounts and charges are printed from the statement, and what they rest on is asked
 // of the functions that settled them.
 #![tactic(auto)]
+
 ghost use Rattle.std.specs.Prelude.{◌≡◌, ◌+◌, ◌*◌, ◌≤◌, ◌<◌, length};
 ghost use Rattle.words.specs.Word.{word_at};
 ghost use Rattle.limits.specs.Ranges.{day_hours, most_coordinators, proved_points};
@@ -13,8 +14,8 @@ ghost use Rattle.surcharge.specs.Ranges.{TermsKept};
 ghost use Rattle.amounts.specs.Ranges.{AtHour};
 ghost use Rattle.settlement.specs.SoundFile.{SoundFile};
 
-use libc::{STDERR_FILENO, STDIN_FILENO};
 use locating::{Field, Place};
+use std::io;
 use surcharge::{Day, Terms};
 use verdict::Verdict;
 
@@ -88,10 +89,8 @@ fn area_block<'a>(file: &[u8], k: usize, statement: &'a [i64]) -> &'a [i64]
     requires { (SoundFile file.now) × (k < areas_of file.now) }
 {
     let mut at: usize = 0;
-    let mut before: usize = 0;
-    while before < k {
+    for before in 0..k {
         at += statement::area_numbers(coordinators(area_body(file, before)));
-        before += 1;
     }
     reading::part(statement, at)
 }
@@ -112,20 +111,25 @@ fn hour_charges(block: &[i64], count: usize, h: usize) -> &[i64]
 
 // ---- the day and its areas
 
-fn show_day(file: &[u8]) -> bool
+fn show_day(rt: &impl Print, file: &[u8]) -> io::Result<()>
     requires { 16 ≤ length file.now }
 {
-    show::text(b"header\tday\ttrading day\tareas\tpeak word\nday")
-        & show::number_field(words::word(file, 1) as i64)
-        & show::number_field(words::word(file, 2) as i64)
-        & show::number_field(words::word(file, 3) as i64)
-        & show::end()
+    show::text(rt, b"header\tday\ttrading day\tareas\tpeak word\nday")?;
+    show::number_field(rt, words::word(file, 1) as i64)?;
+    show::number_field(rt, words::word(file, 2) as i64)?;
+    show::number_field(rt, words::word(file, 3) as i64)?;
+    show::end(rt)
 }
 
-fn area_header() -> bool {
+fn area_header(rt: &impl Print) -> io::Result<()> {
     show::text(
+        rt,
         b"header\tarea\tarea\tkind\tflag\td\thub price A (cents)\thub price B (cents)\tgreater hub price (cents)",
-    ) & show::text(b"\tload points\tcoordinators\tday tier\tM (0.001 MW)\tm (quarters)\n")
+    )?;
+    show::text(
+        rt,
+        b"\tload points\tcoordinators\tday tier\tM (0.001 MW)\tm (quarters)\n",
+    )
 }
 
 // P of a body.
@@ -137,268 +141,326 @@ fn greater_hub_price(body: &[u8]) -> i32
 }
 
 // The words of an area as the file has them, up to the hub prices and the greater one.
-fn show_area_words(area: u32, body: &[u8]) -> bool
+fn show_area_words(rt: &impl Print, area: u32, body: &[u8]) -> io::Result<()>
     requires { Sound proved_points body.now }
 {
-    show::text(b"area")
-        & show::number_field(area as i64)
-        & show::number_field(head_word(body, 0) as i64)
-        & show::number_field(head_word(body, 1) as i64)
-        & show::number_field(head_word(body, 2) as i64)
-        & show::signed_word_field(words::signed(head_word(body, 3)))
-        & show::signed_word_field(words::signed(head_word(body, 4)))
-        & show::signed_word_field(greater_hub_price(body))
+    show::text(rt, b"area")?;
+    show::number_field(rt, area as i64)?;
+    show::number_field(rt, head_word(body, 0) as i64)?;
+    show::number_field(rt, head_word(body, 1) as i64)?;
+    show::number_field(rt, head_word(body, 2) as i64)?;
+    show::signed_word_field(rt, words::signed(head_word(body, 3)))?;
+    show::signed_word_field(rt, words::signed(head_word(body, 4)))?;
+    show::signed_word_field(rt, greater_hub_price(body))
 }
 
-fn show_area(area: u32, terms: Terms, body: &[u8]) -> bool
+fn show_area(rt: &impl Print, area: u32, terms: Terms, body: &[u8]) -> io::Result<()>
     requires { (TermsKept terms) × (Sound proved_points body.now) }
 {
     let day = amounts::day_facts(terms, body);
     let most = day.most;
-    show_area_words(area, body)
-        & show::count_field(load_points(body))
-        & show::count_field(coordinators(body))
-        & show::number_field(day.tier as i64)
-        & show::number_field(most.0 as i64)
-        & show::number_field(explaining::multiplier(day.tier) as i64)
-        & show::end()
+    show_area_words(rt, area, body)?;
+    show::count_field(rt, load_points(body))?;
+    show::count_field(rt, coordinators(body))?;
+    show::number_field(rt, day.tier as i64)?;
+    show::number_field(rt, most.0 as i64)?;
+    show::number_field(rt, explaining::multiplier(day.tier) as i64)?;
+    show::end(rt)
 }
 
-fn show_areas(file: &[u8], n: usize, peak: u32) -> bool
+fn show_areas(rt: &impl Print, file: &[u8], n: usize, peak: u32) -> io::Result<()>
     requires { (SoundFile file.now) × (n ≡ areas_of file.now) }
 {
-    let mut written = area_header();
-    let mut k: usize = 0;
-    while k < n {
+    area_header(rt)?;
+    for k in 0..n {
         let body = area_body(file, k);
-        written = written & show_area(area_number(file, k), terms_of(peak, body), body);
-        k += 1;
+        show_area(rt, area_number(file, k), terms_of(peak, body), body)?;
     }
-    written
+    Ok(())
 }
 
 // ---- the hours
 
-fn hour_header() -> bool {
+fn hour_header(rt: &impl Print) -> io::Result<()> {
     show::text(
+        rt,
         b"header\thour\tarea\thour ending\tU (0.001 MW)\tQ (0.001 MW)\ttier\tpeak\tprice needed\tprice ($0.0001)",
-    ) & show::text(
+    )?;
+    show::text(
+        rt,
         b"\tintervals with a price\tm (quarters)\tS (cents)\tcredit (cents)\ton-peak (cents)\toff-peak (cents)",
-    ) & show::text(b"\tW (0.001 MW)\tMEC ($0.0001)\tdownward (cents)\tA (cents)\tT (0.001 MWh)\n")
+    )?;
+    show::text(
+        rt,
+        b"\tW (0.001 MW)\tMEC ($0.0001)\tdownward (cents)\tA (cents)\tT (0.001 MWh)\n",
+    )
 }
 
 // U, Q, the tier, whether it is a peak hour, and whether the price is needed; the price and its count; m.
-fn show_shortage(terms: Terms, day: Day, body: &[u8], h: usize, at: usize) -> bool
+fn show_shortage(
+    rt: &impl Print,
+    terms: Terms,
+    day: Day,
+    body: &[u8],
+    h: usize,
+    at: usize,
+) -> io::Result<()>
     requires { AtHour terms day body.now h at }
 {
     let shortage = explaining::hour_shortage(terms, day, body, h, at);
     let upward = shortage.upward;
     let requirement = shortage.requirement;
-    show::number_field(upward.0 as i64)
-        & show::number_field(requirement.0 as i64)
-        & show::number_field(shortage.tier as i64)
-        & show::yes_field(shortage.peak)
-        & show::yes_field(shortage.needed)
-        & show_price(terms, day, body, h, at)
-        & show::number_field(shortage.quarters as i64)
+    show::number_field(rt, upward.0 as i64)?;
+    show::number_field(rt, requirement.0 as i64)?;
+    show::number_field(rt, shortage.tier as i64)?;
+    show::yes_field(rt, shortage.peak)?;
+    show::yes_field(rt, shortage.needed)?;
+    show_price(rt, terms, day, body, h, at)?;
+    show::number_field(rt, shortage.quarters as i64)
 }
 
-fn show_price(terms: Terms, day: Day, body: &[u8], h: usize, at: usize) -> bool
+fn show_price(
+    rt: &impl Print,
+    terms: Terms,
+    day: Day,
+    body: &[u8],
+    h: usize,
+    at: usize,
+) -> io::Result<()>
     requires { AtHour terms day body.now h at }
 {
     let priced = explaining::hour_price(terms, day, body, h, at);
     let price = priced.price;
     if !priced.there {
-        return show::field(b"none") & show::number_field(priced.count as i64);
+        show::field(rt, b"none")?;
+        return show::number_field(rt, priced.count as i64);
     }
-    show::signed_word_field(price.0) & show::number_field(priced.count as i64)
+    show::signed_word_field(rt, price.0)?;
+    show::number_field(rt, priced.count as i64)
 }
 
 // S, the credit, the on-peak and the off-peak amount, as the statement shows them.
-fn show_upward(numbers: &[i64]) -> bool {
-    show::number_field(reading::number(numbers, 3))
-        & show::number_field(reading::number(numbers, 4))
-        & show::number_field(reading::number(numbers, 0))
-        & show::number_field(reading::number(numbers, 1))
+fn show_upward(rt: &impl Print, numbers: &[i64]) -> io::Result<()> {
+    show::number_field(rt, reading::number(numbers, 3))?;
+    show::number_field(rt, reading::number(numbers, 4))?;
+    show::number_field(rt, reading::number(numbers, 0))?;
+    show::number_field(rt, reading::number(numbers, 1))
 }
 
 // W, MEC, the downward amount, A and T.
-fn show_downward(terms: Terms, day: Day, body: &[u8], h: usize, at: usize, numbers: &[i64]) -> bool
+fn show_downward(
+    rt: &impl Print,
+    terms: Terms,
+    day: Day,
+    body: &[u8],
+    h: usize,
+    at: usize,
+    numbers: &[i64],
+) -> io::Result<()>
     requires { AtHour terms day body.now h at }
 {
     let quantity = explaining::hour_downward(terms, day, body, h, at);
     let amount = explaining::hour_amount(terms, day, body, h, at);
-    show::number_field(quantity.0 as i64)
-        & show::signed_word_field(explaining::hour_mec(terms, day, body, h, at))
-        & show::number_field(reading::number(numbers, 2))
-        & show::number_field(amount.0)
-        & show::number_field(explaining::hour_demand(terms, day, body, h, at) as i64)
+    show::number_field(rt, quantity.0 as i64)?;
+    show::signed_word_field(rt, explaining::hour_mec(terms, day, body, h, at))?;
+    show::number_field(rt, reading::number(numbers, 2))?;
+    show::number_field(rt, amount.0)?;
+    show::number_field(rt, explaining::hour_demand(terms, day, body, h, at) as i64)
 }
 
-fn show_hour(area: u32, terms: Terms, day: Day, body: &[u8], h: usize, numbers: &[i64]) -> bool
+fn show_hour(
+    rt: &impl Print,
+    area: u32,
+    terms: Terms,
+    day: Day,
+    body: &[u8],
+    h: usize,
+    numbers: &[i64],
+) -> io::Result<()>
     requires { AtHour terms day body.now h (hour_at body.now h) }
 {
     let at = hour_start(body, h);
-    show::text(b"hour")
-        & show::number_field(area as i64)
-        & show::count_field(h + 1)
-        & show_shortage(terms, day, body, h, at)
-        & show_upward(numbers)
-        & show_downward(terms, day, body, h, at, numbers)
-        & show::end()
+    show::text(rt, b"hour")?;
+    show::number_field(rt, area as i64)?;
+    show::count_field(rt, h + 1)?;
+    show_shortage(rt, terms, day, body, h, at)?;
+    show_upward(rt, numbers)?;
+    show_downward(rt, terms, day, body, h, at, numbers)?;
+    show::end(rt)
 }
 
-fn show_area_hours(area: u32, terms: Terms, body: &[u8], block: &[i64]) -> bool
+fn show_area_hours(
+    rt: &impl Print,
+    area: u32,
+    terms: Terms,
+    body: &[u8],
+    block: &[i64],
+) -> io::Result<()>
     requires { (TermsKept terms) × (Sound proved_points body.now) }
 {
     let day = amounts::day_facts(terms, body);
     let count = coordinators(body);
-    let mut written = true;
-    let mut h: usize = 0;
-    while h < limits::DAY_HOURS {
-        written = written & show_hour(area, terms, day, body, h, hour_block(block, count, h));
-        h += 1;
+    for h in 0..limits::DAY_HOURS {
+        show_hour(rt, area, terms, day, body, h, hour_block(block, count, h))?;
     }
-    written
+    Ok(())
 }
 
-fn show_hours(file: &[u8], n: usize, peak: u32, statement: &[i64]) -> bool
+fn show_hours(
+    rt: &impl Print,
+    file: &[u8],
+    n: usize,
+    peak: u32,
+    statement: &[i64],
+) -> io::Result<()>
     requires { (SoundFile file.now) × (n ≡ areas_of file.now) }
 {
-    let mut written = hour_header();
-    let mut k: usize = 0;
-    while k < n {
+    hour_header(rt)?;
+    for k in 0..n {
         let body = area_body(file, k);
         let block = area_block(file, k, statement);
-        written = written
-            & show_area_hours(area_number(file, k), terms_of(peak, body), body, block);
-        k += 1;
+        show_area_hours(rt, area_number(file, k), terms_of(peak, body), body, block)?;
     }
-    written
+    Ok(())
 }
 
 // ---- the intervals
 
-fn interval_header() -> bool {
+fn interval_header(rt: &impl Print) -> io::Result<()> {
     show::text(
+        rt,
         b"header\tinterval\tarea\thour ending\tinterval\tquantity (0.001 MWh)\tprice ($0.0001)\n",
     )
 }
 
-fn show_interval(area: u32, h: usize, i: usize, quantity: u32, price: u32) -> bool
+fn show_interval(
+    rt: &impl Print,
+    area: u32,
+    h: usize,
+    i: usize,
+    quantity: u32,
+    price: u32,
+) -> io::Result<()>
     requires { (h < day_hours) × (i < 4294967296) }
 {
-    let before = show::text(b"interval")
-        & show::number_field(area as i64)
-        & show::count_field(h + 1)
-        & show::count_field(i + 1)
-        & show::number_field(quantity as i64);
+    show::text(rt, b"interval")?;
+    show::number_field(rt, area as i64)?;
+    show::count_field(rt, h + 1)?;
+    show::count_field(rt, i + 1)?;
+    show::number_field(rt, quantity as i64)?;
     if price == limits::MISSING_PRICE {
-        return before & show::field(b"missing") & show::end();
+        show::field(rt, b"missing")?;
+        return show::end(rt);
     }
-    before & show::signed_word_field(words::signed(price)) & show::end()
+    show::signed_word_field(rt, words::signed(price))?;
+    show::end(rt)
 }
 
-fn show_hour_intervals(area: u32, body: &[u8], h: usize) -> bool
+fn show_hour_intervals(rt: &impl Print, area: u32, body: &[u8], h: usize) -> io::Result<()>
     requires { (Sound proved_points body.now) × (h < day_hours) }
 {
     let from = hour_start(body, h) + 8;
     let count = 12 * load_points(body);
-    let mut written = true;
-    let mut i: usize = 0;
-    while i < count {
+    for i in 0..count {
         let quantity = words::word(body, from + 2 * i);
         let price = words::word(body, from + 2 * i + 1);
-        written = written & show_interval(area, h, i, quantity, price);
-        i += 1;
+        show_interval(rt, area, h, i, quantity, price)?;
     }
-    written
+    Ok(())
 }
 
-fn show_area_intervals(area: u32, body: &[u8]) -> bool
+fn show_area_intervals(rt: &impl Print, area: u32, body: &[u8]) -> io::Result<()>
     requires { Sound proved_points body.now }
 {
-    let mut written = true;
-    let mut h: usize = 0;
-    while h < limits::DAY_HOURS {
-        written = written & show_hour_intervals(area, body, h);
-        h += 1;
+    for h in 0..limits::DAY_HOURS {
+        show_hour_intervals(rt, area, body, h)?;
     }
-    written
+    Ok(())
 }
 
-fn show_intervals(file: &[u8], n: usize) -> bool
+fn show_intervals(rt: &impl Print, file: &[u8], n: usize) -> io::Result<()>
     requires { (SoundFile file.now) × (n ≡ areas_of file.now) }
 {
-    let mut written = interval_header();
-    let mut k: usize = 0;
-    while k < n {
-        written = written & show_area_intervals(area_number(file, k), area_body(file, k));
-        k += 1;
+    interval_header(rt)?;
+    for k in 0..n {
+        show_area_intervals(rt, area_number(file, k), area_body(file, k))?;
     }
-    written
+    Ok(())
 }
 
 // ---- the charges
 
-fn charge_header() -> bool {
+fn charge_header(rt: &impl Print) -> io::Result<()> {
     show::text(
+        rt,
         b"header\tcharge\tarea\tcoordinator\thour ending\tdemand (0.001 MWh)\tcharge (cents)\n",
     )
 }
 
-fn show_charge(area: u32, coordinator: u32, h: usize, demand: u32, charge: i64) -> bool
+fn show_charge(
+    rt: &impl Print,
+    area: u32,
+    coordinator: u32,
+    h: usize,
+    demand: u32,
+    charge: i64,
+) -> io::Result<()>
     requires { h < day_hours }
 {
-    show::text(b"charge")
-        & show::number_field(area as i64)
-        & show::number_field(coordinator as i64)
-        & show::count_field(h + 1)
-        & show::number_field(demand as i64)
-        & show::number_field(charge)
-        & show::end()
+    show::text(rt, b"charge")?;
+    show::number_field(rt, area as i64)?;
+    show::number_field(rt, coordinator as i64)?;
+    show::count_field(rt, h + 1)?;
+    show::number_field(rt, demand as i64)?;
+    show::number_field(rt, charge)?;
+    show::end(rt)
 }
 
-fn show_hour_charges(area: u32, body: &[u8], h: usize, charges: &[i64]) -> bool
+fn show_hour_charges(
+    rt: &impl Print,
+    area: u32,
+    body: &[u8],
+    h: usize,
+    charges: &[i64],
+) -> io::Result<()>
     requires { (Sound proved_points body.now) × (h < day_hours) }
 {
     let from = hour_start(body, h) + 8 + 24 * load_points(body);
     let count = coordinators(body);
-    let mut written = true;
-    let mut i: usize = 0;
-    while i < count {
+    for i in 0..count {
         let coordinator = words::word(body, 7 + i);
         let demand = words::word(body, from + i);
-        written = written & show_charge(area, coordinator, h, demand, reading::number(charges, i));
-        i += 1;
+        show_charge(
+            rt,
+            area,
+            coordinator,
+            h,
+            demand,
+            reading::number(charges, i),
+        )?;
     }
-    written
+    Ok(())
 }
 
-fn show_area_charges(area: u32, body: &[u8], block: &[i64]) -> bool
+fn show_area_charges(rt: &impl Print, area: u32, body: &[u8], block: &[i64]) -> io::Result<()>
     requires { Sound proved_points body.now }
 {
     let count = coordinators(body);
-    let mut written = true;
-    let mut h: usize = 0;
-    while h < limits::DAY_HOURS {
-        written = written & show_hour_charges(area, body, h, hour_charges(block, count, h));
-        h += 1;
+    for h in 0..limits::DAY_HOURS {
+        show_hour_charges(rt, area, body, h, hour_charges(block, count, h))?;
     }
-    written
+    Ok(())
 }
 
-fn show_charges(file: &[u8], n: usize, statement: &[i64]) -> bool
+fn show_charges(rt: &impl Print, file: &[u8], n: usize, statement: &[i64]) -> io::Result<()>
     requires { (SoundFile file.now) × (n ≡ areas_of file.now) }
 {
-    let mut written = charge_header();
-    let mut k: usize = 0;
-    while k < n {
+    charge_header(rt)?;
+    for k in 0..n {
         let block = area_block(file, k, statement);
-        written = written & show_area_charges(area_number(file, k), area_body(file, k), block);
-        k += 1;
+        show_area_charges(rt, area_number(file, k), area_body(file, k), block)?;
     }
-    written
+    Ok(())
 }
 
 // ---- totals
@@ -431,10 +493,8 @@ fn both(a: Totals, b: Totals) -> Totals {
 
 fn sum_of(charges: &[i64], count: usize) -> i64 {
     let mut total: i64 = 0;
-    let mut i: usize = 0;
-    while i < count {
+    for i in 0..count {
         total = reading::sum(total, reading::number(charges, i));
-        i += 1;
     }
     total
 }
@@ -455,10 +515,8 @@ fn area_totals(block: &[i64], count: usize) -> Totals
     requires { count ≤ most_coordinators }
 {
     let mut totals = no_totals();
-    let mut h: usize = 0;
-    while h < limits::DAY_HOURS {
+    for h in 0..limits::DAY_HOURS {
         totals = both(totals, hour_totals(block, count, h));
-        h += 1;
     }
     totals
 }
@@ -467,48 +525,46 @@ fn day_totals(file: &[u8], n: usize, statement: &[i64]) -> Totals
     requires { (SoundFile file.now) × (n ≡ areas_of file.now) }
 {
     let mut totals = no_totals();
-    let mut k: usize = 0;
-    while k < n {
+    for k in 0..n {
         let block = area_block(file, k, statement);
         totals = both(totals, area_totals(block, coordinators(area_body(file, k))));
-        k += 1;
     }
     totals
 }
 
-fn show_totals(totals: Totals) -> bool {
-    show::number_field(totals.on)
-        & show::number_field(totals.off)
-        & show::number_field(totals.down)
-        & show::number_field(totals.charges)
-        & show::end()
+fn show_totals(rt: &impl Print, totals: Totals) -> io::Result<()> {
+    show::number_field(rt, totals.on)?;
+    show::number_field(rt, totals.off)?;
+    show::number_field(rt, totals.down)?;
+    show::number_field(rt, totals.charges)?;
+    show::end(rt)
 }
 
-fn show_area_totals(file: &[u8], n: usize, statement: &[i64]) -> bool
-    requires { (SoundFile file.now) × (n ≡ areas_of file.now) }
-{
-    let mut written = show::text(
-        b"header\tarea-total\tarea\ton-peak (cents)\toff-peak (cents)\tdownward (cents)\tcharges (cents)\n",
-    );
-    let mut k: usize = 0;
-    while k < n {
-        let block = area_block(file, k, statement);
-        let count = coordinators(area_body(file, k));
-        written = written
-            & show::text(b"area-total")
-            & show::number_field(area_number(file, k) as i64)
-            & show_totals(area_totals(block, count));
-        k += 1;
-    }
-    written
-}
-
-fn show_day_totals(file: &[u8], n: usize, statement: &[i64]) -> bool
+fn show_area_totals(rt: &impl Print, file: &[u8], n: usize, statement: &[i64]) -> io::Result<()>
     requires { (SoundFile file.now) × (n ≡ areas_of file.now) }
 {
     show::text(
+        rt,
+        b"header\tarea-total\tarea\ton-peak (cents)\toff-peak (cents)\tdownward (cents)\tcharges (cents)\n",
+    )?;
+    for k in 0..n {
+        let block = area_block(file, k, statement);
+        let count = coordinators(area_body(file, k));
+        show::text(rt, b"area-total")?;
+        show::number_field(rt, area_number(file, k) as i64)?;
+        show_totals(rt, area_totals(block, count))?;
+    }
+    Ok(())
+}
+
+fn show_day_totals(rt: &impl Print, file: &[u8], n: usize, statement: &[i64]) -> io::Result<()>
+    requires { (SoundFile file.now) × (n ≡ areas_of file.now) }
+{
+    show::text(
+        rt,
         b"header\tday-total\ton-peak (cents)\toff-peak (cents)\tdownward (cents)\tcharges (cents)\nday-total",
-    ) & show_totals(day_totals(file, n, statement))
+    )?;
+    show_totals(rt, day_totals(file, n, statement))
 }
 
 // ---- totals by coordinator
@@ -519,12 +575,10 @@ fn position(body: &[u8], coordinator: u32) -> usize
     ensures { result ≤ coordinators_of body.now }
 {
     let count = coordinators(body);
-    let mut i: usize = 0;
-    while i < count {
+    for i in 0..count {
         if words::word(body, 7 + i) == coordinator {
             return i;
         }
-        i += 1;
     }
     count
 }
@@ -533,13 +587,11 @@ fn position(body: &[u8], coordinator: u32) -> usize
 fn named_before(file: &[u8], k: usize, coordinator: u32) -> bool
     requires { (SoundFile file.now) × (k ≤ areas_of file.now) }
 {
-    let mut before: usize = 0;
-    while before < k {
+    for before in 0..k {
         let body = area_body(file, before);
         if position(body, coordinator) < coordinators(body) {
             return true;
         }
-        before += 1;
     }
     false
 }
@@ -549,10 +601,8 @@ fn charges_of(block: &[i64], count: usize, i: usize) -> i64
     requires { count ≤ most_coordinators }
 {
     let mut total: i64 = 0;
-    let mut h: usize = 0;
-    while h < limits::DAY_HOURS {
+    for h in 0..limits::DAY_HOURS {
         total = reading::sum(total, reading::number(hour_charges(block, count, h), i));
-        h += 1;
     }
     total
 }
@@ -573,120 +623,129 @@ fn coordinator_total(file: &[u8], n: usize, statement: &[i64], coordinator: u32)
     requires { (SoundFile file.now) × (n ≡ areas_of file.now) }
 {
     let mut total: i64 = 0;
-    let mut k: usize = 0;
-    while k < n {
+    for k in 0..n {
         let block = area_block(file, k, statement);
         total = reading::sum(total, charges_in(area_body(file, k), block, coordinator));
-        k += 1;
     }
     total
 }
 
 // A coordinator's total, where area k is the first that names it.
-fn show_coordinator(file: &[u8], n: usize, statement: &[i64], k: usize, coordinator: u32) -> bool
+fn show_coordinator(
+    rt: &impl Print,
+    file: &[u8],
+    n: usize,
+    statement: &[i64],
+    k: usize,
+    coordinator: u32,
+) -> io::Result<()>
     requires { (SoundFile file.now) × ((n ≡ areas_of file.now) × (k < n)) }
 {
     if named_before(file, k, coordinator) {
-        return true;
+        return Ok(());
     }
-    show::text(b"coordinator-total")
-        & show::number_field(coordinator as i64)
-        & show::number_field(coordinator_total(file, n, statement, coordinator))
-        & show::end()
+    show::text(rt, b"coordinator-total")?;
+    show::number_field(rt, coordinator as i64)?;
+    show::number_field(rt, coordinator_total(file, n, statement, coordinator))?;
+    show::end(rt)
 }
 
-fn show_area_coordinators(file: &[u8], n: usize, statement: &[i64], k: usize) -> bool
+fn show_area_coordinators(
+    rt: &impl Print,
+    file: &[u8],
+    n: usize,
+    statement: &[i64],
+    k: usize,
+) -> io::Result<()>
     requires { (SoundFile file.now) × ((n ≡ areas_of file.now) × (k < n)) }
 {
     let body = area_body(file, k);
     let count = coordinators(body);
-    let mut written = true;
-    let mut i: usize = 0;
-    while i < count {
-        written = written & show_coordinator(file, n, statement, k, words::word(body, 7 + i));
-        i += 1;
+    for i in 0..count {
+        show_coordinator(rt, file, n, statement, k, words::word(body, 7 + i))?;
     }
-    written
+    Ok(())
 }
 
-fn show_coordinators(file: &[u8], n: usize, statement: &[i64]) -> bool
+fn show_coordinators(rt: &impl Print, file: &[u8], n: usize, statement: &[i64]) -> io::Result<()>
     requires { (SoundFile file.now) × (n ≡ areas_of file.now) }
 {
-    let mut written = show::text(b"header\tcoordinator-total\tcoordinator\tcharges (cents)\n");
-    let mut k: usize = 0;
-    while k < n {
-        written = written & show_area_coordinators(file, n, statement, k);
-        k += 1;
+    show::text(
+        rt,
+        b"header\tcoordinator-total\tcoordinator\tcharges (cents)\n",
+    )?;
+    for k in 0..n {
+        show_area_coordinators(rt, file, n, statement, k)?;
     }
-    written
+    Ok(())
 }
 
 // ---- a day that is settled
 
-fn show_settled(file: &[u8], statement: &[i64]) -> bool
+fn show_settled(rt: &impl Print, file: &[u8], statement: &[i64]) -> io::Result<()>
     requires { SoundFile file.now }
 {
     let n = words::word(file, 2) as usize;
     let peak = words::word(file, 3);
-    show_day(file)
-        & show_areas(file, n, peak)
-        & show_hours(file, n, peak, statement)
-        & show_intervals(file, n)
-        & show_charges(file, n, statement)
-        & show_area_totals(file, n, statement)
-        & show_coordinators(file, n, statement)
-        & show_day_totals(file, n, statement)
+    show_day(rt, file)?;
+    show_areas(rt, file, n, peak)?;
+    show_hours(rt, file, n, peak, statement)?;
+    show_intervals(rt, file, n)?;
+    show_charges(rt, file, n, statement)?;
+    show_area_totals(rt, file, n, statement)?;
+    show_coordinators(rt, file, n, statement)?;
+    show_day_totals(rt, file, n, statement)
 }
 
 // ---- a day that is refused
 
-fn show_field(field: Field) -> bool {
+fn show_field(rt: &impl Print, field: Field) -> io::Result<()> {
     match field {
-        Field::Edition => show::field(b"edition"),
-        Field::TradingDay => show::field(b"trading day"),
-        Field::Areas => show::field(b"areas"),
-        Field::PeakWord => show::field(b"peak word"),
-        Field::AreaNumber => show::field(b"area number"),
-        Field::FirstWord => show::field(b"first word"),
-        Field::Words => show::field(b"words"),
-        _ => show_body_field(field),
+        Field::Edition => show::field(rt, b"edition"),
+        Field::TradingDay => show::field(rt, b"trading day"),
+        Field::Areas => show::field(rt, b"areas"),
+        Field::PeakWord => show::field(rt, b"peak word"),
+        Field::AreaNumber => show::field(rt, b"area number"),
+        Field::FirstWord => show::field(rt, b"first word"),
+        Field::Words => show::field(rt, b"words"),
+        _ => show_body_field(rt, field),
     }
 }
 
-fn show_body_field(field: Field) -> bool {
+fn show_body_field(rt: &impl Print, field: Field) -> io::Result<()> {
     match field {
-        Field::Kind => show::field(b"kind"),
-        Field::Flag => show::field(b"flag"),
-        Field::PersistentDays => show::field(b"persistent days"),
-        Field::HubPriceA => show::field(b"hub price A"),
-        Field::HubPriceB => show::field(b"hub price B"),
-        Field::LoadPoints => show::field(b"load points"),
-        Field::Coordinators => show::field(b"coordinators"),
-        Field::Coordinator { which: _ } => show::field(b"coordinator"),
-        _ => show_number_field(field),
+        Field::Kind => show::field(rt, b"kind"),
+        Field::Flag => show::field(rt, b"flag"),
+        Field::PersistentDays => show::field(rt, b"persistent days"),
+        Field::HubPriceA => show::field(rt, b"hub price A"),
+        Field::HubPriceB => show::field(rt, b"hub price B"),
+        Field::LoadPoints => show::field(rt, b"load points"),
+        Field::Coordinators => show::field(rt, b"coordinators"),
+        Field::Coordinator { which: _ } => show::field(rt, b"coordinator"),
+        _ => show_number_field(rt, field),
     }
 }
 
-fn show_number_field(field: Field) -> bool {
+fn show_number_field(rt: &impl Print, field: Field) -> io::Result<()> {
     match field {
-        Field::UpwardEnergy => show::field(b"upward energy"),
-        Field::RegulationUp => show::field(b"regulation up"),
-        Field::Spin => show::field(b"spin"),
-        Field::NonSpin => show::field(b"non-spin"),
-        Field::DownwardEnergy => show::field(b"downward energy"),
-        Field::RegulationDown => show::field(b"regulation down"),
-        Field::Requirement => show::field(b"requirement"),
-        Field::Mec => show::field(b"MEC"),
-        _ => show_counted_field(field),
+        Field::UpwardEnergy => show::field(rt, b"upward energy"),
+        Field::RegulationUp => show::field(rt, b"regulation up"),
+        Field::Spin => show::field(rt, b"spin"),
+        Field::NonSpin => show::field(rt, b"non-spin"),
+        Field::DownwardEnergy => show::field(rt, b"downward energy"),
+        Field::RegulationDown => show::field(rt, b"regulation down"),
+        Field::Requirement => show::field(rt, b"requirement"),
+        Field::Mec => show::field(rt, b"MEC"),
+        _ => show_counted_field(rt, field),
     }
 }
 
-fn show_counted_field(field: Field) -> bool {
+fn show_counted_field(rt: &impl Print, field: Field) -> io::Result<()> {
     match field {
-        Field::IntervalQuantity { which: _ } => show::field(b"interval quantity"),
-        Field::IntervalPrice { which: _ } => show::field(b"interval price"),
-        Field::Demand { which: _ } => show::field(b"demand"),
-        _ => show::field(b"nowhere"),
+        Field::IntervalQuantity { which: _ } => show::field(rt, b"interval quantity"),
+        Field::IntervalPrice { which: _ } => show::field(rt, b"interval price"),
+        Field::Demand { which: _ } => show::field(rt, b"demand"),
+        _ => show::field(rt, b"nowhere"),
     }
 }
 
@@ -701,17 +760,17 @@ fn which(field: Field) -> usize {
     }
 }
 
-fn show_part(file: &[u8], at: usize, hour: usize) -> bool {
+fn show_part(rt: &impl Print, file: &[u8], at: usize, hour: usize) -> io::Result<()> {
     if at < 4 {
-        return show::field(b"head");
+        return show::field(rt, b"head");
     }
     if at < 4 + 3 * (locating::word(file, 2) as usize) {
-        return show::field(b"contents");
+        return show::field(rt, b"contents");
     }
     if hour == 0 {
-        return show::field(b"body");
+        return show::field(rt, b"body");
     }
-    show::field(b"hour")
+    show::field(rt, b"hour")
 }
 
 // The number of the area of an entry, from 1; 0 where it is none.
@@ -749,90 +808,110 @@ fn count_present(file: &[u8], at: usize, load: usize) -> u32
 }
 
 // How many intervals of the hour have a price and how many there are, where that is what is refused.
-fn show_intervals_seen(file: &[u8], number: u32, at: usize, entry: usize) -> bool {
+fn show_intervals_seen(
+    rt: &impl Print,
+    file: &[u8],
+    number: u32,
+    at: usize,
+    entry: usize,
+) -> io::Result<()> {
     if number != 11 {
         if number != 16 {
-            return show::text(b"\t0\t0\n");
+            return show::text(rt, b"\t0\t0\n");
         }
     }
     if limits::MOST_BYTES < at {
-        return show::text(b"\t0\t0\n");
+        return show::text(rt, b"\t0\t0\n");
     }
     let load = entry_points(file, entry);
-    show::number_field(count_present(file, at, load) as i64)
-        & show::count_field(12 * load)
-        & show::end()
+    show::number_field(rt, count_present(file, at, load) as i64)?;
+    show::count_field(rt, 12 * load)?;
+    show::end(rt)
 }
 
-fn refused_header() -> bool {
+fn refused_header(rt: &impl Print) -> io::Result<()> {
     show::text(
+        rt,
         b"header\trefused\tnumber\tplace\tpart\tentry\tarea\thour ending\tfield\twhich\tvalue\tintervals with a price\tintervals\n",
     )
 }
 
 // A refusal that names no word of the file: what of the file is meant, and its value.
-fn show_unplaced(number: u32, place: usize, what: &[u8], value: usize) -> bool {
-    refused_header()
-        & show::text(b"refused")
-        & show::number_field(number as i64)
-        & show::count_field(place)
-        & show::text(what)
-        & show::count_field(value)
-        & show::text(b"\t0\t0\n")
+fn show_unplaced(
+    rt: &impl Print,
+    number: u32,
+    place: usize,
+    what: &[u8],
+    value: usize,
+) -> io::Result<()> {
+    refused_header(rt)?;
+    show::text(rt, b"refused")?;
+    show::number_field(rt, number as i64)?;
+    show::count_field(rt, place)?;
+    show::text(rt, what)?;
+    show::count_field(rt, value)?;
+    show::text(rt, b"\t0\t0\n")
 }
 
 // A refusal at a word of the file.
-fn show_placed(file: &[u8], number: u32, at: usize, place: Place) -> bool {
+fn show_placed(
+    rt: &impl Print,
+    file: &[u8],
+    number: u32,
+    at: usize,
+    place: Place,
+) -> io::Result<()> {
     let field = place.field;
-    refused_header()
-        & show::text(b"refused")
-        & show::number_field(number as i64)
-        & show::count_field(at)
-        & show_part(file, at, place.hour)
-        & show::count_field(place.entry)
-        & show::signed_word_field(words::signed(entry_number(file, place.entry)))
-        & show::count_field(place.hour)
-        & show_field(field)
-        & show::count_field(which(field))
-        & show::signed_word_field(words::signed(locating::word(file, at)))
-        & show_intervals_seen(file, number, at, place.entry)
+    refused_header(rt)?;
+    show::text(rt, b"refused")?;
+    show::number_field(rt, number as i64)?;
+    show::count_field(rt, at)?;
+    show_part(rt, file, at, place.hour)?;
+    show::count_field(rt, place.entry)?;
+    show::signed_word_field(rt, words::signed(entry_number(file, place.entry)))?;
+    show::count_field(rt, place.hour)?;
+    show_field(rt, field)?;
+    show::count_field(rt, which(field))?;
+    show::signed_word_field(rt, words::signed(locating::word(file, at)))?;
+    show_intervals_seen(rt, file, number, at, place.entry)
 }
 
-fn show_refused(file: &[u8], answer: Verdict) -> bool {
+fn show_refused(rt: &impl Print, file: &[u8], answer: Verdict) -> io::Result<()> {
     let number = verdict::number(answer);
     let place = verdict::place(answer);
     if number == 1 {
-        return show_unplaced(number, place, b"\tfile\t0\t0\t0\tbytes\t0", file.len());
+        return show_unplaced(rt, number, place, b"\tfile\t0\t0\t0\tbytes\t0", file.len());
     }
     if number == 13 {
         return show_unplaced(
+            rt,
             number,
             place,
             b"\tstatement\t0\t0\t0\tnumbers needed\t0",
             place,
         );
     }
-    show_placed(file, number, place, locating::find(file, place))
+    show_placed(rt, file, number, place, locating::find(file, place))
 }
 
-// Whether all that there is to print was written.
-fn explain(file: &[u8]) -> bool {
+// Prints what the charges of a day that is settled come from, or where it is refused.
+fn explain(rt: &impl Print, file: &[u8]) -> io::Result<()> {
     let mut statement = reading::statement_room();
     let answer = settlement::settle(file, &mut statement);
     if verdict::number(answer) != 0 {
-        return show_refused(file, answer);
+        return show_refused(rt, file, answer);
     }
-    show_settled(file, &statement)
+    show_settled(rt, file, &statement)
 }
 
-// A program has no exit status, so what could not be written is said on standard error.
-fn main() {
+// Reads the file, and prints what is said of it.
+fn run(rt: &(impl Input + Print)) -> io::Result<()> {
     let mut room = reading::file_room();
-    let got = io::read_full(STDIN_FILENO, &mut room);
-    if !explain(&room[..got]) {
-        io::write_all(
-            STDERR_FILENO,
-            b"explain8080: standard output could not be written\n",
-        );
-    }
+    let got = reading::read_full(rt, &mut room)?;
+    explain(rt, &room[..got])
+}
+
+// What could not be read or written is said on standard error, and makes the exit status 1.
+fn main(rt: HostRuntime) -> io::Result<()> {
+    run(&rt)
 }

@@ -1,5 +1,6 @@
 // The calls of a month for a timing program in C. Each answers the number of its refusal, and leaves what the call itself leaves.
 #![tactic(auto)]
+
 ghost use Rattle.std.specs.Prelude.{◌≡◌, length};
 ghost use Rattle.verdict.specs.Verdict.{number_of};
 ghost use Rattle.keeping.specs.Keeping.{add_rule, with_day, withdraw_rule, without_day};

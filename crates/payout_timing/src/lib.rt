@@ -1,5 +1,6 @@
 // The call that pays out for a timing program in C. It answers the number of its refusal, and leaves what the call itself leaves.
 #![tactic(auto)]
+
 ghost use Rattle.std.specs.Prelude.{◌≡◌, length};
 ghost use Rattle.verdict.specs.Verdict.{number_of};
 ghost use Rattle.payout_rules.specs.PayOut.{pay_out_rule, payments_after};

@@ -1,8 +1,12 @@
-// What the programs read a day file and a statement with: the room for the longest of each, the numbers of a statement, and their sum.
+// What the programs read a day file and a statement with: the room for the longest of each, the file itself, the numbers of a statement, and their sum.
 #![tactic(auto)]
-ghost use Rattle.std.specs.Prelude.{◌≡◌, ◌+◌, length};
+
+ghost use Rattle.std.specs.Prelude.{◌≡◌, ◌+◌, ◌≤◌, length, IfOk};
 ghost use Rattle.limits.specs.Editions.{most_bytes};
 ghost use Rattle.settlement.specs.Settlement.{most_numbers};
+
+use std::io;
+use std::io::Read;
 
 // A byte more than the longest file that is not refused for its length, so that a longer one is seen to be longer.
 const FILE_ROOM: usize = limits::MOST_BYTES + 1;
@@ -44,4 +48,24 @@ pub fn sum(total: i64, charge: i64) -> i64 {
         return total;
     }
     total + charge
+}
+
+// Reads until the room is full or the input ends: how many bytes there are.
+pub fn read_full(rt: &impl Input, room: &mut [u8]) -> io::Result<usize>
+    ensures bound { IfOk result (λ n. n ≤ length room.old) }
+    ensures keeps_length { length room.new ≡ length room.old }
+{
+    let mut reader = rt.reader();
+    let mut done = 0;
+    for _ in 0..u64::MAX {
+        if done == room.len() {
+            break;
+        }
+        let n = reader.read(&mut room[done..])?;
+        if n == 0 {
+            break;
+        }
+        done += n;
+    }
+    Ok(done)
 }

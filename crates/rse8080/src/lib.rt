@@ -1,5 +1,7 @@
-// Settles a day file for a host written in C. The statement is bytes, eight little-endian bytes a number, two's complement.
+// Settles a day file for a host written in C, which crate rse8080_c hands the call to. The statement is bytes, eight little-endian
+// bytes a number, two's complement.
 #![tactic(auto)]
+
 ghost use Rattle.std.specs.Prelude.{◌≡◌, ◌++◌, ◌*◌, ◌≤◌, length, drop};
 ghost use Rattle.verdict.specs.Verdict.{coded};
 ghost use Rattle.encoding.specs.Encoding.{encoded};
@@ -34,8 +36,7 @@ fn put_areas(file: &[u8], bytes: &mut [u8])
 }
 
 // The one call for a host in C; include/rse8080.h says what it promises.
-#[unsafe(no_mangle)]
-pub extern "C" fn rse8080_settle(file: &[u8], statement: &mut [u8]) -> u64
+pub fn rse8080_settle(file: &[u8], statement: &mut [u8]) -> u64
     ensures value { result ≡ coded (verdict_of file.now statement.old) }
     ensures statement_after { statement.new
         ≡ bytes_after (verdict_of file.now statement.old) file.now statement.old }

@@ -1,71 +1,65 @@
-// What the programs write on standard output: numbers in decimal, single spaces, line ends. A call that answers says whether
-// all of it was written; `numbers` answers nothing.
+// What the programs write on standard output: numbers in decimal, single spaces, line ends. Each call answers whether all of it
+// was written, or what stopped it.
 #![tactic(auto)]
 
-use libc::STDOUT_FILENO;
+use std::io;
 
-pub fn text(bytes: &[u8]) -> bool {
-    io::write_all(STDOUT_FILENO, bytes)
+pub fn text(rt: &impl Print, bytes: &[u8]) -> io::Result<()> {
+    rt.write_all(bytes)
 }
 
-pub fn unsigned(n: u64) -> bool {
-    io::print_decimal(STDOUT_FILENO, n)
+pub fn unsigned(rt: &impl Print, n: u64) -> io::Result<()> {
+    rt.print(n)
 }
 
-pub fn signed(z: i64) -> bool {
-    if z < 0 {
-        if !text(b"-") {
-            return false;
-        }
-    }
-    unsigned(exact::absolute(z))
+pub fn signed(rt: &impl Print, z: i64) -> io::Result<()> {
+    rt.print(z)
 }
 
-pub fn signed_word(z: i32) -> bool {
-    signed(z as i64)
+pub fn signed_word(rt: &impl Print, z: i32) -> io::Result<()> {
+    rt.print(z)
 }
 
-pub fn space() -> bool {
-    io::write_all(STDOUT_FILENO, b" ")
+pub fn space(rt: &impl Print) -> io::Result<()> {
+    text(rt, b" ")
 }
 
-pub fn end() -> bool {
-    io::write_all(STDOUT_FILENO, b"\n")
+pub fn end(rt: &impl Print) -> io::Result<()> {
+    text(rt, b"\n")
 }
 
 // Each number after a space, and the end of the line.
-pub fn numbers(numbers: &[i64]) {
-    let mut i: usize = 0;
-    while i < numbers.len() {
-        space();
-        signed(numbers[i]);
-        i += 1;
+pub fn numbers(rt: &impl Print, numbers: &[i64]) -> io::Result<()> {
+    for number in numbers {
+        space(rt)?;
+        signed(rt, *number)?;
     }
-    end();
+    end(rt)
 }
 
 // ---- lines of fields, a tab before each but the first
 
-pub fn field(bytes: &[u8]) -> bool {
-    text(b"\t") & text(bytes)
+pub fn field(rt: &impl Print, bytes: &[u8]) -> io::Result<()> {
+    text(rt, b"\t")?;
+    text(rt, bytes)
 }
 
-pub fn number_field(z: i64) -> bool {
-    text(b"\t") & signed(z)
+pub fn number_field(rt: &impl Print, z: i64) -> io::Result<()> {
+    text(rt, b"\t")?;
+    signed(rt, z)
 }
 
-pub fn signed_word_field(z: i32) -> bool {
-    text(b"\t") & signed_word(z)
+pub fn signed_word_field(rt: &impl Print, z: i32) -> io::Result<()> {
+    text(rt, b"\t")?;
+    signed_word(rt, z)
 }
 
 // A yes is 1 and a no is 0.
-pub fn yes_field(yes: bool) -> bool {
-    if yes {
-        return number_field(1);
-    }
-    number_field(0)
+pub fn yes_field(rt: &impl Print, yes: bool) -> io::Result<()> {
+    number_field(rt, i64::from(yes))
 }
 
-pub fn count_field(n: usize) -> bool {
-    text(b"\t") & unsigned(n as u64)
+pub fn count_field(rt: &impl Print, n: usize) -> io::Result<()> {
+    text(rt, b"\t")?;
+    rt.print(n)
 }

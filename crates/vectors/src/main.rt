@@ -1,14 +1,15 @@
 // Runs the library's public calls on a stream of cases from standard input, and prints a line for each.
 // A case is four words (the call, x, y, the number of payload bytes) and its payload; the stream ends where no whole case follows.
 #![tactic(auto)]
+
 ghost use Rattle.std.specs.Prelude.{◌≡◌, ◌+◌, ◌*◌, ◌≤◌, ◌<◌, ◌^◌, length};
 ghost use Rattle.sharing.specs.Rows.{rows_by_value};
 ghost use Rattle.record_words.specs.Words.{record_words};
 
-use libc::STDIN_FILENO;
 use record_words::RECORD_WORDS;
 use recording::Record;
 use sharing::{ROWS_BY_VALUE, Row};
+use std::io;
 use verdict::Verdict;
 
 // Room for a payload: a month book of many days.
@@ -25,15 +26,15 @@ fn statement_room() -> [i64; 8192]
     [0; 8192]
 }
 
-fn bad_case() -> bool {
-    show::text(b"bad case\n");
-    false
+fn bad_case(rt: &impl Print) -> io::Result<bool> {
+    show::text(rt, b"bad case\n")?;
+    Ok(false)
 }
 
-fn show_verdict(answer: Verdict) {
-    show::unsigned(verdict::number(answer) as u64);
-    show::space();
-    show::unsigned(verdict::place(answer) as u64);
+fn show_verdict(rt: &impl Print, answer: Verdict) -> io::Result<()> {
+    show::unsigned(rt, verdict::number(answer) as u64)?;
+    show::space(rt)?;
+    show::unsigned(rt, verdict::place(answer) as u64)
 }
 
 fn digest_step(h: u64, byte: u8) -> u64
@@ -45,37 +46,35 @@ fn digest_step(h: u64, byte: u8) -> u64
 
 fn digest(bytes: &[u8]) -> u64 {
     let mut h: u64 = 0;
-    let mut i: usize = 0;
-    while i < bytes.len() {
-        h = digest_step(h, bytes[i]);
-        i += 1;
+    for byte in bytes {
+        h = digest_step(h, *byte);
     }
     h
 }
 
-fn check(file: &[u8]) {
-    show_verdict(dayfile::check(file));
-    show::end();
+fn check(rt: &impl Print, file: &[u8]) -> io::Result<()> {
+    show_verdict(rt, dayfile::check(file))?;
+    show::end(rt)
 }
 
-fn lookup(file: &[u8], area: u32) {
+fn lookup(rt: &impl Print, file: &[u8], area: u32) -> io::Result<()> {
     let body = dayfile::body_of(file, area);
-    show::unsigned(body.len() as u64);
-    show::space();
-    show::unsigned(digest(body));
-    show::end();
+    show::unsigned(rt, body.len() as u64)?;
+    show::space(rt)?;
+    show::unsigned(rt, digest(body))?;
+    show::end(rt)
 }
 
-fn price(pairs: &[u8]) {
+fn price(rt: &impl Print, pairs: &[u8]) -> io::Result<()> {
     let answer = price::load_weighted(pairs);
-    show::unsigned(price::number(answer) as u64);
-    show::space();
-    show::unsigned(price::place(answer) as u64);
-    show::space();
-    show::signed_word(price::price_of(answer));
-    show::space();
-    show::unsigned(price::count_of(answer) as u64);
-    show::end();
+    show::unsigned(rt, price::number(answer) as u64)?;
+    show::space(rt)?;
+    show::unsigned(rt, price::place(answer) as u64)?;
+    show::space(rt)?;
+    show::signed_word(rt, price::price_of(answer))?;
+    show::space(rt)?;
+    show::unsigned(rt, price::count_of(answer) as u64)?;
+    show::end(rt)
 }
 
 // Number i that is lent: what is printed of it shows whether the call touched it.
@@ -88,10 +87,8 @@ fn lent(i: usize) -> i64
 fn fill_lent(numbers: &mut [i64])
     requires { length numbers.old ≤ 65536 }
 {
-    let mut i: usize = 0;
-    while i < numbers.len() {
+    for i in 0..numbers.len() {
         numbers[i] = lent(i);
-        i += 1;
     }
 }
 
@@ -123,55 +120,59 @@ fn rows_of(payload: &[u8], n: usize) -> [Row; ROWS_BY_VALUE]
         demand: 0,
     };
     let mut rows = [none; ROWS_BY_VALUE];
-    let mut i: usize = 0;
-    while i < n {
+    for i in 0..n {
         rows[i] = row(payload, i);
-        i += 1;
     }
     rows
 }
 
-fn share_into(amount: i64, rows: [Row; ROWS_BY_VALUE], n: usize, charges: &mut [i64])
+fn share_into(
+    rt: &impl Print,
+    amount: i64,
+    rows: [Row; ROWS_BY_VALUE],
+    n: usize,
+    charges: &mut [i64],
+) -> io::Result<()>
     requires { length charges.old ≤ 128 }
 {
     fill_lent(charges);
-    show_verdict(sharing::share_array(amount, rows, n, charges));
-    show::numbers(charges);
+    show_verdict(rt, sharing::share_array(amount, rows, n, charges))?;
+    show::numbers(rt, charges)
 }
 
-fn share(payload: &[u8], x: usize) -> bool {
+fn share(rt: &impl Print, payload: &[u8], x: usize) -> io::Result<bool> {
     if payload.len() < 8 {
-        return bad_case();
+        return bad_case(rt);
     }
     let n = payload.len() / 8 - 1;
     if ROWS_BY_VALUE < n {
-        return bad_case();
+        return bad_case(rt);
     }
     if 128 < x {
-        return bad_case();
+        return bad_case(rt);
     }
     let amount = amount_of(words::word(payload, 0), words::word(payload, 1));
     let rows = rows_of(payload, n);
     let mut charges = [0i64; 128];
-    share_into(amount, rows, n, &mut charges[..x]);
-    true
+    share_into(rt, amount, rows, n, &mut charges[..x])?;
+    Ok(true)
 }
 
-fn settle_into(file: &[u8], statement: &mut [i64])
+fn settle_into(rt: &impl Print, file: &[u8], statement: &mut [i64]) -> io::Result<()>
     requires { length statement.old ≤ 8192 }
 {
     fill_lent(statement);
-    show_verdict(settlement::settle(file, statement));
-    show::numbers(statement);
+    show_verdict(rt, settlement::settle(file, statement))?;
+    show::numbers(rt, statement)
 }
 
-fn settle(file: &[u8], x: usize) -> bool {
+fn settle(rt: &impl Print, file: &[u8], x: usize) -> io::Result<bool> {
     if 8192 < x {
-        return bad_case();
+        return bad_case(rt);
     }
     let mut room = statement_room();
-    settle_into(file, &mut room[..x]);
-    true
+    settle_into(rt, file, &mut room[..x])?;
+    Ok(true)
 }
 
 // Each byte that is lent: what is printed of the bytes shows whether the call touched them.
@@ -181,20 +182,20 @@ fn statement_bytes() -> [u8; 65536]
     [165; 65536]
 }
 
-fn settle_bytes(file: &[u8], statement: &mut [u8]) {
-    show::unsigned(rse8080::rse8080_settle(file, statement));
-    show::space();
-    show::unsigned(digest(statement));
-    show::end();
+fn settle_bytes(rt: &impl Print, file: &[u8], statement: &mut [u8]) -> io::Result<()> {
+    show::unsigned(rt, rse8080::rse8080_settle(file, statement))?;
+    show::space(rt)?;
+    show::unsigned(rt, digest(statement))?;
+    show::end(rt)
 }
 
-fn c_call(file: &[u8], x: usize) -> bool {
+fn c_call(rt: &impl Print, file: &[u8], x: usize) -> io::Result<bool> {
     if 65536 < x {
-        return bad_case();
+        return bad_case(rt);
     }
     let mut room = statement_bytes();
-    settle_bytes(file, &mut room[..x]);
-    true
+    settle_bytes(rt, file, &mut room[..x])?;
+    Ok(true)
 }
 
 // The words of the record that stand before the day file.
@@ -202,59 +203,60 @@ fn record_of(payload: &[u8]) -> Record
     requires { 4 * record_words ≤ length payload.now }
 {
     let mut numbers = [0u32; RECORD_WORDS];
-    let mut i: usize = 0;
-    while i < RECORD_WORDS {
+    for i in 0..RECORD_WORDS {
         numbers[i] = words::word(payload, i);
-        i += 1;
     }
     record_words::record_of(numbers)
 }
 
-fn show_record(given: Record) {
+fn show_record(rt: &impl Print, given: Record) -> io::Result<()> {
     let numbers = record_words::words_of(given);
-    let mut i: usize = 0;
-    while i < RECORD_WORDS {
-        show::space();
-        show::unsigned(numbers[i] as u64);
-        i += 1;
+    for number in &numbers {
+        show::space(rt)?;
+        show::unsigned(rt, *number as u64)?;
     }
-    show::end();
+    show::end(rt)
 }
 
-fn enter(payload: &[u8]) -> bool {
+fn enter(rt: &impl Print, payload: &[u8]) -> io::Result<bool> {
     if payload.len() < 4 * RECORD_WORDS {
-        return bad_case();
+        return bad_case(rt);
     }
     let given = record_of(payload);
     let file = &payload[4 * RECORD_WORDS..];
     let entered = entering::enter(given, file);
     let answer = entered.answer;
-    show_verdict(answer);
+    show_verdict(rt, answer)?;
     let after = entered.after;
-    show_record(after);
-    true
+    show_record(rt, after)?;
+    Ok(true)
 }
 
-fn settle_recorded_into(given: Record, file: &[u8], statement: &mut [i64])
+fn settle_recorded_into(
+    rt: &impl Print,
+    given: Record,
+    file: &[u8],
+    statement: &mut [i64],
+) -> io::Result<()>
     requires { length statement.old ≤ 8192 }
 {
     fill_lent(statement);
-    show_verdict(recorded::settle_recorded(given, file, statement));
-    show::numbers(statement);
+    show_verdict(rt, recorded::settle_recorded(given, file, statement))?;
+    show::numbers(rt, statement)
 }
 
-fn settle_recorded(payload: &[u8], x: usize) -> bool {
+fn settle_recorded(rt: &impl Print, payload: &[u8], x: usize) -> io::Result<bool> {
     if payload.len() < 4 * RECORD_WORDS {
-        return bad_case();
+        return bad_case(rt);
     }
     if 8192 < x {
-        return bad_case();
+        return bad_case(rt);
     }
     let given = record_of(payload);
     let file = &payload[4 * RECORD_WORDS..];
     let mut room = statement_room();
-    settle_recorded_into(given, file, &mut room[..x]);
-    true
+    settle_recorded_into(rt, given, file, &mut room[..x])?;
+    Ok(true)
 }
 
 // Place i that is lent of a table.
@@ -267,79 +269,81 @@ fn lent_place(i: usize) -> u64
 fn fill_table(table: &mut [u64])
     requires { length table.old ≤ 64 }
 {
-    let mut i: usize = 0;
-    while i < table.len() {
+    for i in 0..table.len() {
         table[i] = lent_place(i);
-        i += 1;
     }
 }
 
-fn show_table(table: &[u64]) {
-    let mut i: usize = 0;
-    while i < table.len() {
-        show::space();
-        show::unsigned(table[i]);
-        i += 1;
+fn show_table(rt: &impl Print, table: &[u64]) -> io::Result<()> {
+    for place in table {
+        show::space(rt)?;
+        show::unsigned(rt, *place)?;
     }
+    Ok(())
 }
 
-fn settle_month_into(book: &[u8], statement: &mut [i64], table: &mut [u64])
+fn settle_month_into(
+    rt: &impl Print,
+    book: &[u8],
+    statement: &mut [i64],
+    table: &mut [u64],
+) -> io::Result<()>
     requires { (length statement.old ≤ 8192) × (length table.old ≤ 64) }
 {
     fill_lent(statement);
     fill_table(table);
-    show_verdict(month::settle_month(book, statement, table));
-    show_table(table);
-    show::numbers(statement);
+    show_verdict(rt, month::settle_month(book, statement, table))?;
+    show_table(rt, table)?;
+    show::numbers(rt, statement)
 }
 
-fn settle_month(payload: &[u8], x: usize) -> bool {
+fn settle_month(rt: &impl Print, payload: &[u8], x: usize) -> io::Result<bool> {
     if payload.len() < 4 {
-        return bad_case();
+        return bad_case(rt);
     }
     let places = words::word(payload, 0) as usize;
     if 64 < places {
-        return bad_case();
+        return bad_case(rt);
     }
     if 8192 < x {
-        return bad_case();
+        return bad_case(rt);
     }
     let mut statement = statement_room();
     let mut table = [0u64; 64];
-    settle_month_into(&payload[4..], &mut statement[..x], &mut table[..places]);
-    true
+    settle_month_into(rt, &payload[4..], &mut statement[..x], &mut table[..places])?;
+    Ok(true)
 }
 
-fn add_day_into(book: &mut [u8], file: &[u8]) {
-    show_verdict(keeping::add_day(book, file));
-    show::space();
-    show::unsigned(digest(book));
-    show::end();
+fn add_day_into(rt: &impl Print, book: &mut [u8], file: &[u8]) -> io::Result<()> {
+    show_verdict(rt, keeping::add_day(book, file))?;
+    show::space(rt)?;
+    show::unsigned(rt, digest(book))?;
+    show::end(rt)
 }
 
 // The book is copied out of the payload, so that the file stays beside it.
-fn add_day(payload: &[u8]) -> bool {
+fn add_day(rt: &impl Print, payload: &[u8]) -> io::Result<bool> {
     if payload.len() < 4 {
-        return bad_case();
+        return bad_case(rt);
     }
     let bytes = words::word(payload, 0) as usize;
     if 262144 < bytes {
-        return bad_case();
+        return bad_case(rt);
     }
     if payload.len() - 4 < bytes {
-        return bad_case();
+        return bad_case(rt);
     }
     let mut room = payload_room();
     moving::copy_in(&mut room, 0, &payload[4..4 + bytes]);
-    add_day_into(&mut room[..bytes], &payload[4 + bytes..]);
-    true
+    add_day_into(rt, &mut room[..bytes], &payload[4 + bytes..])?;
+    Ok(true)
 }
 
-fn withdraw_day(book: &mut [u8], date: u32) {
-    show_verdict(keeping::withdraw_day(book, date));
-    show::space();
-    show::unsigned(digest(book));
-    show::end();
+fn withdraw_day(rt: &impl Print, book: &mut [u8], date: u32) -> io::Result<()> {
+    show_verdict(rt, keeping::withdraw_day(book, date))?;
+    show::space(rt)?;
+    show::unsigned(rt, digest(book))?;
+    show::end(rt)
 }
 
 // The words of the basis that stand before the day file.
@@ -348,119 +352,113 @@ fn basis_of(payload: &[u8], count: usize) -> [u32; 1024]
     ensures { 1024 ≡ length result }
 {
     let mut basis = [0u32; 1024];
-    let mut i: usize = 0;
-    while i < count {
+    for i in 0..count {
         basis[i] = words::word(payload, i + 1);
-        i += 1;
     }
     basis
 }
 
-fn pay_out_into(file: &[u8], basis: &[u32], payments: &mut [i64])
+fn pay_out_into(rt: &impl Print, file: &[u8], basis: &[u32], payments: &mut [i64]) -> io::Result<()>
     requires { length payments.old ≤ 8192 }
 {
     fill_lent(payments);
-    show_verdict(payout::pay_out(file, basis, payments));
-    show::numbers(payments);
+    show_verdict(rt, payout::pay_out(file, basis, payments))?;
+    show::numbers(rt, payments)
 }
 
-fn pay_out(payload: &[u8], x: usize) -> bool {
+fn pay_out(rt: &impl Print, payload: &[u8], x: usize) -> io::Result<bool> {
     if payload.len() < 4 {
-        return bad_case();
+        return bad_case(rt);
     }
     let count = words::word(payload, 0) as usize;
     if 1024 < count {
-        return bad_case();
+        return bad_case(rt);
     }
     if payload.len() - 4 < 4 * count {
-        return bad_case();
+        return bad_case(rt);
     }
     if 8192 < x {
-        return bad_case();
+        return bad_case(rt);
     }
     let basis = basis_of(payload, count);
     let mut room = statement_room();
-    pay_out_into(&payload[4 + 4 * count..], &basis[..count], &mut room[..x]);
-    true
+    pay_out_into(
+        rt,
+        &payload[4 + 4 * count..],
+        &basis[..count],
+        &mut room[..x],
+    )?;
+    Ok(true)
 }
 
-fn call(number: u32, x: u32, payload: &mut [u8]) -> bool {
-    if number == 1 {
-        check(payload);
-        return true;
+fn call(rt: &impl Print, number: u32, x: u32, payload: &mut [u8]) -> io::Result<bool> {
+    match number {
+        1 => {
+            check(rt, payload)?;
+            Ok(true)
+        }
+        2 => settle(rt, payload, x as usize),
+        3 => {
+            price(rt, payload)?;
+            Ok(true)
+        }
+        4 => share(rt, payload, x as usize),
+        5 => {
+            lookup(rt, payload, x)?;
+            Ok(true)
+        }
+        6 => c_call(rt, payload, x as usize),
+        7 => enter(rt, payload),
+        8 => settle_recorded(rt, payload, x as usize),
+        9 => settle_month(rt, payload, x as usize),
+        10 => add_day(rt, payload),
+        11 => {
+            withdraw_day(rt, payload, x)?;
+            Ok(true)
+        }
+        12 => pay_out(rt, payload, x as usize),
+        _ => bad_case(rt),
     }
-    if number == 2 {
-        return settle(payload, x as usize);
-    }
-    if number == 3 {
-        price(payload);
-        return true;
-    }
-    if number == 4 {
-        return share(payload, x as usize);
-    }
-    if number == 5 {
-        lookup(payload, x);
-        return true;
-    }
-    if number == 6 {
-        return c_call(payload, x as usize);
-    }
-    if number == 7 {
-        return enter(payload);
-    }
-    if number == 8 {
-        return settle_recorded(payload, x as usize);
-    }
-    if number == 9 {
-        return settle_month(payload, x as usize);
-    }
-    if number == 10 {
-        return add_day(payload);
-    }
-    if number == 11 {
-        withdraw_day(payload, x);
-        return true;
-    }
-    if number == 12 {
-        return pay_out(payload, x as usize);
-    }
-    bad_case()
 }
 
-fn filled(number: u32, x: u32, payload: &mut [u8]) -> bool {
-    let got = io::read_full(STDIN_FILENO, payload);
+fn filled(rt: &(impl Input + Print), number: u32, x: u32, payload: &mut [u8]) -> io::Result<bool> {
+    let got = reading::read_full(rt, payload)?;
     if got < payload.len() {
-        return false;
+        return Ok(false);
     }
-    call(number, x, payload)
+    call(rt, number, x, payload)
 }
 
 // One case; false where the run is over.
-fn case() -> bool {
+fn case(rt: &(impl Input + Print)) -> io::Result<bool> {
     let mut head = [0u8; 16];
-    let got = io::read_full(STDIN_FILENO, &mut head);
+    let got = reading::read_full(rt, &mut head)?;
     if got < 16 {
-        return false;
+        return Ok(false);
     }
     let payload = words::word(&head, 3) as usize;
     if 262144 < payload {
-        return bad_case();
+        return bad_case(rt);
     }
     let mut room = payload_room();
     filled(
+        rt,
         words::word(&head, 0),
         words::word(&head, 1),
         &mut room[..payload],
     )
 }
 
-fn main() {
-    let mut cases: usize = 1000000;
-    while 0 < cases {
-        if !case() {
-            return;
+fn run(rt: &(impl Input + Print)) -> io::Result<()> {
+    for _ in 0..1000000 {
+        if !case(rt)? {
+            break;
         }
-        cases -= 1;
     }
+    Ok(())
+}
+
+// What could not be read or written is said on standard error, and makes the exit status 1.
+fn main(rt: HostRuntime) -> io::Result<()> {
+    run(&rt)
 }

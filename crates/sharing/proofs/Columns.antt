@@ -11,8 +11,6 @@ use lib.IntN.{ℤ}
 use lib.ListN.{length, get_or, take, drop, set, length-map, length-take, length-replicate, drop_of_length-le, get_or-map}
 use lib.Seq.{take_all, get_or-take, take-append_seam}
 use borrow.Author.Tests.{le-leb, lt-leb}
-use denote.Laws.{Is}
-use denote.Struct.Laws as LL
 use Rattle.verdict.specs.declared.Verdict.{Verdict}
 use Rattle.verdict.specs.declared.Verdict.TheVariants.{BadLength}
 use Rattle.limits.specs.Ranges.{most_coordinators}
@@ -21,15 +19,6 @@ use Rattle.sharing.specs.Rows.{coordinator_column, demand_column, SharedRows}
 use Rattle.sharing.specs.Columns.{empty_column, column, table_of, SharedTable}
 use Rattle.sharing.specs.declared.Row.{Row}
 use Rattle.sharing.specs.declared.Table.{Table}
-use Rattle.sharing.specs.contracts.Table as T
-use Rattle.sharing.proofs.Table.TheLaws as T'
-
--- the columns of a table that a function is passed are full
-pub full : (table : Table) → Is T.the_row table (LL.vals T.the_type T'.the_laws table)
-    → (length table.coordinators ≡ most_coordinators) × (length table.demands ≡ most_coordinators)
-full table is =
-    let fs = LL.owed T.the_type T'.the_laws table _ is in
-    (sym (length-map table.coordinators _) ∙ fs.1.0.1.0.1, sym (length-map table.demands _) ∙ fs.1.1.0.1.0.1)
 
 -- ---- a column is filled, a row a turn
 

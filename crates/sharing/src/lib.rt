@@ -48,7 +48,7 @@ fn share_table(amount: i64, table: Table, charges: &mut [i64]) -> Verdict
     columns::share_columns(amount, &coordinators[..count], &demands[..count], charges)
 }
 
-// The copying loop under the sharing call. It is the one loop over lent rows, and is proved by hand.
+// The copying loop under the sharing call. It is the one loop over lent rows.
 fn table_of(rows: &[Row]) -> Table
     ensures { result ≡ table_of rows.now }
 {
@@ -70,15 +70,14 @@ fn table_of(rows: &[Row]) -> Table
     }
 }
 
-// The sharing call. Proved by hand.
+// The sharing call.
 pub fn share(amount: i64, rows: &[Row], charges: &mut [i64]) -> Verdict
     ensures { SharedRows amount rows.now charges.old result charges.new }
 {
     share_table(amount, table_of(rows), charges)
 }
 
-// For a caller that holds its rows by value: the first n are lent to the sharing call, or all of them where n is larger. Proved by hand; its callers
-// need no walk.
+// For a caller that holds its rows by value: the first n are lent to the sharing call, or all of them where n is larger.
 pub fn share_array(
     amount: i64,
     rows: [Row; ROWS_BY_VALUE],

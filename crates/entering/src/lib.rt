@@ -1,5 +1,6 @@
 // Enters a day file into the record of failing days: the call `enter`.
 #![tactic(auto)]
+
 ghost use Rattle.std.specs.Prelude.{◌≡◌, ◌^◌};
 ghost use Rattle.limits.specs.Ranges.{recorded_days};
 ghost use Rattle.verdict.specs.Verdict.{number_of};

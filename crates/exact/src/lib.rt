@@ -1,6 +1,7 @@
 // R (docs/RULES.md, section 1), the whole product of a quantity and a price, and the floors at 0, in 64 bits.
 // The laws of whole numbers, of lists that are filled and of parts that are lent stand in proofs/.
 #![tactic(auto)]
+
 ghost use Rattle.std.specs.Prelude.{◌≡◌, ◌<◌, pos, nat_abs, ◌*ℤ◌};
 ghost use Rattle.std.specs.Int.{w64};
 ghost use Rattle.std.proofs.Common.{SFits};

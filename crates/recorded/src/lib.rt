@@ -1,5 +1,6 @@
 // Settles a day file with the record of failing days: the call `settle_recorded`.
 #![tactic(auto)]
+
 ghost use Rattle.std.specs.Prelude.{◌≡◌, ℕ, ◌≤◌, ◌<◌, length, get_or};
 ghost use Rattle.limits.specs.Editions.{most_held};
 ghost use Rattle.verdict.specs.Verdict.{number_of};

@@ -18,26 +18,24 @@ opened : (r : Record) (file : List ℕ) → enter_of r file ≡ (admit_rule r fi
 unfolding enter_of admit_rule
 opened r file = sym (or_assoc (check_of file) (record_rule r (day_of file)) (room_rule r file))
 
-returns : tie.Need-returns
+returns : tie.Need-returns-then-number-ne0
 returns c =
-    let t = c.before in
-    let s = t.before.before.before.before.args in
+    let s = c.args in
     let r = s.given in
     let f = s.file.now in
-    c.refuse.ensures ∙ refused_so r f _ (λ q. t.if1.true (t.before.number.ensures ∙ q))
-    ∙ ap (answered_by r f) (seq_stop _ _ _ _ _ (opened r f) t.before.before.admit.ensures.0 t.before.number.ensures t.if1.true)
+    c.refuse.ensures ∙ refused_so r f _ (λ q. c.if-number-ne0.true (c.number.ensures ∙ q))
+    ∙ ap (answered_by r f) (seq_stop _ _ _ _ _ (opened r f) c.admit-told.ensures.0 c.number.ensures c.if-number-ne0.true)
 
-enter-after-requires : tie.Need-enter-after-requires
-enter-after-requires c κs = sym (ap number_of c.before.before.admit.ensures.0) ∙ sym c.before.number.ensures ∙ c.if1.false
+enter-after-requires : tie.Need-enter_after-requires
+enter-after-requires c κs = sym (ap number_of c.admit-told.ensures.0) ∙ sym c.number.ensures ∙ c.if-number-ne0.false
 
-returns-2 : tie.Need-returns-2
+returns-2 : tie.Need-returns
 returns-2 c =
-    let e = c.before in
-    let s = e.before.before.before.before.args in
+    let s = c.args in
     let r = s.given in
     let f = s.file.now in
-    c.enter-after.ensures
-    ∙ ap (answered_by r f) (sym (seq_next _ _ _ _ _ (opened r f) e.before.before.admit.ensures.0 e.before.number.ensures e.if1.false))
+    c.enter_after.ensures
+    ∙ ap (answered_by r f) (sym (seq_next _ _ _ _ _ (opened r f) c.admit-told.ensures.0 c.number.ensures c.if-number-ne0.false))
 
 pub enter_spec : {M : Type 1} → statement M
 enter_spec =

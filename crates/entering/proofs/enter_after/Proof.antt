@@ -26,61 +26,50 @@ real : (c : tie.Start) → real_date (day_of c.args.file.now) ≡ true
 real c = (file_head _ _ (within_limits _ (admitted _ _ c.requires).checked)).real
 
 -- the record on the day of the file
-aged : (c : tie.After-age-all) →
-    let s = c.before.before.before.before.before in
-    c.age-all.result ≡ record_of (day_of s.args.file.now)
-    (kept (days_between s.args.given (day_of s.args.file.now)) (entries s.args.given))
+aged : (c : tie.After-age_all-aged) →
+    c.age_all-aged.result ≡ record_of (day_of c.args.file.now)
+    (kept (days_between c.args.given (day_of c.args.file.now)) (entries c.args.given))
 aged c =
-    let s = c.before.before.before.before.before in
-    let date = c.before.before.before.word.ensures in
-    c.age-all.ensures
-    ∙ ap₂ (λ date g. record_of date (kept g (entries s.args.given))) date (c.before.gap.ensures ∙ ap (days_between s.args.given) date)
+    let date = c.word-date.ensures in
+    c.age_all-aged.ensures
+    ∙ ap₂ (λ date g. record_of date (kept g (entries c.args.given))) date (c.gap.ensures ∙ ap (days_between c.args.given) date)
 
 -- and its areas marked
-came : (c : tie.After-mark-areas) →
-    let s = c.before.before.before.before.before.before in
-    let a = c.before.age-all.result in
-    c.mark-areas.result ≡ answered a.last a (marked_all (marked_from s.args.file.now 0 (areas_of s.args.file.now)) (entries a))
+came : (c : tie.After-mark_areas-next) →
+    let a = c.age_all-aged.result in
+    c.mark_areas-next.result ≡ answered a.last a (marked_all (marked_from c.args.file.now 0 (areas_of c.args.file.now)) (entries a))
 came c =
-    let s = c.before.before.before.before.before.before in
-    let a = c.before.age-all.result in
-    c.mark-areas.ensures
-    ∙ ap (λ n. answered a.last a (marked_all (marked_from s.args.file.now 0 n) (entries a))) c.before.before.before.word2.ensures
+    let a = c.age_all-aged.result in
+    c.mark_areas-next.ensures
+    ∙ ap (λ n. answered a.last a (marked_all (marked_from c.args.file.now 0 n) (entries a))) c.word-n.ensures
 
-word-requires : tie.Need-word-requires
+word-requires : tie.Need-word-date-requires
 word-requires c κs = let r = (sound c.before).room in omega arith
 
-word-requires-2 : tie.Need-word-requires-2
+word-requires-2 : tie.Need-word-n-requires
 word-requires-2 c κs = let r = (sound c.before.before).room in omega arith
 
 gap-requires : tie.Need-gap-requires
 gap-requires c κs =
-    let s = c.before.before.before in
-    rw c.before.word.ensures (real s, (admitted _ _ s.requires).judged)
+    rw c.word-date.ensures (real c.before.before.before, (admitted _ _ c.requires).judged)
 
-age-all-requires : tie.Need-age-all-requires
+age-all-requires : tie.Need-age_all-aged-requires
 age-all-requires c κs = (before c.before.before.before.before).left.few
 
-mark-areas-requires : tie.Need-mark-areas-requires
+mark-areas-requires : tie.Need-mark_areas-next-requires
 mark-areas-requires c κs =
-    let s = c.before.before.before.before.before in
-    (aged_sound _ _ s.args.given c.age-all.result (before s).left.few (aged c), sound s, c.before.before.word2.ensures)
+    (aged_sound _ _ c.args.given c.age_all-aged.result (before c.before.before.before.before.before).left.few (aged c), sound c.before.before.before.before.before, c.word-n.ensures)
 
-returns : tie.Need-returns
+returns : tie.Need-returns-then-refused
 returns c =
-    let m = c.before.before in
-    let s = m.before.before.before.before.before.before in
     c.refuse.ensures
-    ∙ too_many s.args.given s.args.file.now m.before.age-all.result m.mark-areas.result (aged m.before) (came m)
-    c.before.if1.true
+    ∙ too_many c.args.given c.args.file.now c.age_all-aged.result c.mark_areas-next.result (aged c.before.before.before) (came c.before.before)
+    c.if-refused.true
 
-returns-2 : tie.Need-returns-2
+returns-2 : tie.Need-returns
 returns-2 c =
-    let m = c.before.before in
-    let s = m.before.before.before.before.before.before in
-    taken s.args.given s.args.file.now m.before.age-all.result m.mark-areas.result (aged m.before) (came m) c.before.if1.false
+    taken c.args.given c.args.file.now c.age_all-aged.result c.mark_areas-next.result (aged c.before.before.before) (came c.before.before) c.if-refused.false
 
-pub enter-after-spec : {M : Type 1} → statement M
-enter-after-spec =
-    tie.close (tie.spec word-requires word-requires-2 (λ c. search rules) gap-requires age-all-requires mark-areas-requires (λ c κs. search rules)
-    returns returns-2)
+pub enter_after_spec : {M : Type 1} → statement M
+enter_after_spec =
+    tie.close (tie.spec word-requires word-requires-2 (λ c. search rules) gap-requires age-all-requires mark-areas-requires (λ c κs. search rules) returns returns-2)

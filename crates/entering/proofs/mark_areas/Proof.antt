@@ -13,89 +13,75 @@ use Rattle.recording.proofs.AllMarked.{SoFar, none_yet, still_sound, passed_over
 use Rattle.settlement.proofs.Areas.{placed}
 use Rattle.entering.proofs.mark_areas.Statement.{statement}
 use Rattle.entering.proofs.mark_areas.Tie as tie
+use Rattle.entering.proofs.mark_areas.Lts.{then-marked+else-refused, else-marked}
 
-abbrev invariant-loop : tie.invariant-loop
-invariant-loop given file n so-far₀ k₀ so_far k = (k ≤ n) × SoFar given (marked_from file 0 k) (2 ^ recorded_days + k) so_far
+abbrev invariant-loop-k : tie.invariant-loop-k
+invariant-loop-k given file n so-far₀ k₀ so_far k = (k ≤ n) × SoFar given (marked_from file 0 k) (2 ^ recorded_days + k) so_far
 
-abbrev decreases-loop : tie.decreases-loop
-decreases-loop given file n so-far₀ k₀ so_far k = n - k
+abbrev decreases-loop-k : tie.decreases-loop-k
+decreases-loop-k given file n so-far₀ k₀ so_far k = n - k
 
-below : (c : tie.In-loop invariant-loop decreases-loop) → c.before.loop.k < areas_of c.before.before.before.args.file.now
-below c = omega (arith, c.before.before.before.requires.2, c.loop-test.true)
+below : (c : tie.In-loop-k invariant-loop-k decreases-loop-k) → c.loop-k.k < areas_of c.args.file.now
+below c = omega (arith, c.requires.2, c.loop-k-test.true)
 
 -- the body that is looked at is that of area k
-looked-at : (c : tie.After-marked invariant-loop decreases-loop) →
-    let s = c.before.before.before.before.before in
-    c.marked.result ≡ marked_in (body_at s.args.file.now c.before.before.before.loop.k)
-looked-at c = c.marked.ensures ∙ ap marked_in c.before.body_at.ensures.0
+looked-at : (c : tie.After-marked invariant-loop-k decreases-loop-k) →
+    c.marked.result ≡ marked_in (body_at c.args.file.now c.loop-k.k)
+looked-at c = c.marked.ensures ∙ ap marked_in c.body_at.ensures.0
 
-loop-holds : tie.Need-loop-init invariant-loop decreases-loop
+loop-holds : tie.Need-loop-k-init invariant-loop-k decreases-loop-k
 unfolding marked_from
-loop-holds c = (omega arith, none_yet (2 ^ recorded_days) c.before.args.given c.before.requires.0)
+loop-holds c = (omega arith, none_yet (2 ^ recorded_days) c.args.given c.requires.0)
 
-body-at-requires : tie.Need-body-at-requires invariant-loop decreases-loop
-body-at-requires c κs = placed _ c.before.before.before.requires.1 _ (below c)
+body-at-requires : tie.Need-body_at-requires invariant-loop-k decreases-loop-k
+body-at-requires c κs = placed _ c.requires.1 _ (below c)
 
-marked-requires : tie.Need-marked-requires invariant-loop decreases-loop
+marked-requires : tie.Need-marked-requires invariant-loop-k decreases-loop-k
 marked-requires c κs =
-    let s = c.before.before.before.before in
-    rw c.body_at.ensures.0 (s.requires.1.body _ (below c.before))
+    rw c.body_at.ensures.0 (c.requires.1.body _ (below c.before))
 
-word-requires : tie.Need-word-requires invariant-loop decreases-loop
+word-requires : tie.Need-word-requires invariant-loop-k decreases-loop-k
 word-requires c κs =
-    let i = c.before.before.before in
-    let s = i.before.before.before in
-    omega (arith, (placed _ s.requires.1 _ (below i)).0)
+    omega (arith, (placed _ c.requires.1 _ (below c.before.before.before)).0)
 
-mark-requires : tie.Need-mark-requires invariant-loop decreases-loop
+mark-requires : tie.Need-mark-next-requires invariant-loop-k decreases-loop-k
 mark-requires c κs =
-    let i = c.before.before.before.before in
-    let s = i.before.before.before in
-    let l = i.before.loop in
-    still_sound s.args.given (marked_from s.args.file.now 0 l.k) (2 ^ recorded_days + l.k) l.so_far l.invariant.1 4294967295 (omega arith)
-    (omega (arith, s.requires.1.few, below i))
+    let l = c.loop-k in
+    still_sound c.args.given (marked_from c.args.file.now 0 l.k) (2 ^ recorded_days + l.k) l.so_far l.invariant.1 4294967295 (omega arith)
+    (omega (arith, c.requires.1.few, below c.before.before.before.before))
 
-returns : tie.Need-returns invariant-loop decreases-loop
+returns : tie.Need-returns-then-refused invariant-loop-k decreases-loop-k
 returns c =
-    let m = c.before in
-    let t = m.before.before in
-    let i = t.before.before.before in
-    let s = i.before.before.before in
-    let l = i.before.loop in
-    let f = s.args.file.now in
-    let one = next_marked f l.k (sym (looked-at t.before) ∙ t.if1.true) in
-    let whole = rest_marked f (l.k + 1) s.args.n (omega (arith, i.loop-test.true)) in
-    none_marked s.args.given (marked_from f 0 l.k) (2 ^ recorded_days + l.k) l.so_far l.invariant.1 (number_at f l.k) m.mark.result
-    (m.mark.ensures ∙ rw m.before.word.ensures) c.if2.true (marked_from f (l.k + 1) (s.args.n - (l.k + 1)))
-    ∙ ap (λ areas. answered s.args.given.last s.args.given (marked_all areas (entries s.args.given))) (sym (rw one at whole))
+    let l = c.loop-k in
+    let f = c.args.file.now in
+    let one = next_marked f l.k (sym (looked-at c.before.before.before.before) ∙ c.if-marked.true) in
+    let whole = rest_marked f (l.k + 1) c.args.n (omega (arith, c.loop-k-test.true)) in
+    none_marked c.args.given (marked_from f 0 l.k) (2 ^ recorded_days + l.k) l.so_far l.invariant.1 (number_at f l.k) c.mark-next.result
+    (c.mark-next.ensures ∙ rw c.word.ensures) c.if-refused.true (marked_from f (l.k + 1) (c.args.n - (l.k + 1)))
+    ∙ ap (λ areas. answered c.args.given.last c.args.given (marked_all areas (entries c.args.given))) (sym (rw one at whole))
 
-loop-again : tie.Need-loop-preserved invariant-loop decreases-loop
+loop-again : tie.Need-loop-k-preserved invariant-loop-k decreases-loop-k
 loop-again c =
-    let a = c.before in
-    let i = a.before.before in
-    let s = i.before.before.before in
-    let l = i.before.loop in
-    let f = s.args.file.now in
-    let r = s.args.given in (
+    let l = c.loop-k in
+    let f = c.args.file.now in
+    let r = c.args.given in (
       omega arith,
       rw (← add_assoc (2 ^ recorded_days) l.k 1)
-          (⊎_elim
-          (λ w. rw (next_marked f l.k (sym (looked-at a) ∙ w.0.taken), w.5)
-          (one_marked r (marked_from f 0 l.k) (2 ^ recorded_days + l.k) l.so_far l.invariant.1 (number_at f l.k) w.2.result
-          (w.2.ensures ∙ rw w.1.ensures) (omega arith) w.3.left))
-          (λ w. rw (next_unmarked f l.k (sym (looked-at a) ∙ w.0.left), w.1)
-          (passed_over r (marked_from f 0 l.k) (2 ^ recorded_days + l.k) l.so_far l.invariant.1))
-          c.if1.branch),
+          (elim c.if-marked.branch [
+            | then-marked+else-refused w ↦ rw (next_marked f l.k (sym (looked-at c.before) ∙ w.if-marked.true), w.so_far-is)
+                (one_marked r (marked_from f 0 l.k) (2 ^ recorded_days + l.k) l.so_far l.invariant.1 (number_at f l.k) w.mark-next.result
+                (w.mark-next.ensures ∙ rw w.word.ensures) (omega arith) w.if-refused.false)
+            | else-marked w ↦ rw (next_unmarked f l.k (sym (looked-at c.before) ∙ w.if-marked.false), w.so_far-is)
+                (passed_over r (marked_from f 0 l.k) (2 ^ recorded_days + l.k) l.so_far l.invariant.1)
+          ]),
     )
 
-returns-2 : tie.Need-returns-2 invariant-loop decreases-loop
+returns-2 : tie.Need-returns invariant-loop-k decreases-loop-k
 returns-2 c =
-    let s = c.before.before.before in
-    let l = c.before.loop in
-    let e : l.k ≡ s.args.n = omega arith in
-    rw (← e) (all_marked s.args.given (marked_from s.args.file.now 0 l.k) _ l.so_far l.invariant.1)
+    let l = c.loop-k in
+    let e : l.k ≡ c.args.n = omega arith in
+    rw (← e) (all_marked c.args.given (marked_from c.args.file.now 0 l.k) _ l.so_far l.invariant.1)
 
-pub mark-areas-spec : {M : Type 1} → statement M
-mark-areas-spec =
-    tie.close (tie.spec invariant-loop decreases-loop loop-holds body-at-requires marked-requires (λ c. search rules) (λ c. search rules) word-requires
-    mark-requires returns (λ c. search rules) (λ c. search rules) loop-again returns-2)
+pub mark_areas_spec : {M : Type 1} → statement M
+mark_areas_spec =
+    tie.close (tie.spec invariant-loop-k decreases-loop-k loop-holds body-at-requires marked-requires (λ c. search rules) (λ c. search rules) word-requires mark-requires returns (λ c. search rules) (λ c. search rules) loop-again returns-2)

@@ -23,53 +23,44 @@ before : (c : tie.Start) → Before c.args.given (day_of c.args.file.now)
 before c = record_before _ _ (admitted _ _ c.requires.0).judged
 
 -- each area's d is that of the record
-days-are : (c : tie.After-recorded-days) →
-    let s = c.before.before.before.before.before in
-    let f = s.args.file.now in
-    (k : ℕ) → k < areas_of f → listed c.recorded-days.result f k ≡ days_by (record_days s.args.given (day_of f)) f k
+days-are : (c : tie.After-recorded_days-days) →
+    let f = c.args.file.now in
+    (k : ℕ) → k < areas_of f → listed c.recorded_days-days.result f k ≡ days_by (record_days c.args.given (day_of f)) f k
 days-are c = λ k h.
-    let s = c.before.before.before.before.before in
-    let r = s.args.given in
-    in_list c.recorded-days.result s.args.file.now k (omega (arith, h, (sound s).few))
-    ∙ c.recorded-days.ensures k h
-    ∙ ap (counted (marks_of (number_at s.args.file.now k) (entries r)))
-    (c.before.gap.ensures ∙ ap (days_between r) c.before.before.before.word.ensures)
+    let r = c.args.given in
+    in_list c.recorded_days-days.result c.args.file.now k (omega (arith, h, (sound c.before.before.before.before.before).few))
+    ∙ c.recorded_days-days.ensures k h
+    ∙ ap (counted (marks_of (number_at c.args.file.now k) (entries r)))
+    (c.gap-g.ensures ∙ ap (days_between r) c.word-date.ensures)
 
-word-requires : tie.Need-word-requires
+word-requires : tie.Need-word-date-requires
 word-requires c κs = let r = (sound c.before).room in omega arith
 
-word-requires-2 : tie.Need-word-requires-2
+word-requires-2 : tie.Need-word-n-requires
 word-requires-2 c κs = let r = (sound c.before.before).room in omega arith
 
-gap-requires : tie.Need-gap-requires
+gap-requires : tie.Need-gap-g-requires
 gap-requires c κs =
-    let s = c.before.before.before in
-    rw c.before.word.ensures ((file_head _ _ (within_limits _ (admitted _ _ s.requires.0).checked)).real, (admitted _ _ s.requires.0).judged)
+    rw c.word-date.ensures ((file_head _ _ (within_limits _ (admitted _ _ c.requires.0).checked)).real, (admitted _ _ c.requires.0).judged)
 
-recorded-days-requires : tie.Need-recorded-days-requires
+recorded-days-requires : tie.Need-recorded_days-days-requires
 recorded-days-requires c κs =
-    let s = c.before.before.before.before in
-    (sound s, c.before.word2.ensures, (before s).left.few)
+    (sound c.before.before.before.before, c.word-n.ensures, (before c.before.before.before.before).left.few)
 
-settle-accepted-requires : tie.Need-settle-accepted-requires
+settle-accepted-requires : tie.Need-settle_accepted-requires
 settle-accepted-requires c κs =
-    let d = c.before.before in
-    let s = d.before.before.before.before.before in
-    let f = s.args.file.now in (
-      settleable _ (days_by (record_days s.args.given (day_of f)) f) f (sound s)
-          (record { each = λ k h. days_few s.args.given (day_of f) (number_at f k) (before s) }) (days-are d),
-      s.requires.1,
+    let f = c.args.file.now in (
+      settleable _ (days_by (record_days c.args.given (day_of f)) f) f (sound c.before.before.before.before.before.before.before)
+          (record { each = λ k h. days_few c.args.given (day_of f) (number_at f k) (before c.before.before.before.before.before.before.before) }) (days-are c.before.before),
+      c.requires.1,
     )
 
 returns : tie.Need-returns
 returns c =
-    let d = c.before.before.before.before in
-    let s = d.before.before.before.before.before in
-    let f = s.args.file.now in
-    let settled = c.before.settle-accepted.ensures in
-    (settled.0 ∙ rule_same _ _ f (days-are d) (length s.args.statement.now), settled.1 ∙ after_same _ _ f (days-are d) _ _)
+    let f = c.args.file.now in
+    let settled = c.settle_accepted.ensures in
+    (settled.0 ∙ rule_same _ _ f (days-are c.before.before.before.before) (length c.args.statement.now), settled.1 ∙ after_same _ _ f (days-are c.before.before.before.before) _ _)
 
-pub settle-after-spec : {M : Type 1} → statement M
-settle-after-spec =
-    tie.close (tie.spec word-requires word-requires-2 (λ c. search rules) gap-requires recorded-days-requires (λ c. search rules)
-    settle-accepted-requires (λ c. search rules) returns)
+pub settle_after_spec : {M : Type 1} → statement M
+settle_after_spec =
+    tie.close (tie.spec word-requires word-requires-2 (λ c. search rules) gap-requires recorded-days-requires (λ c. search rules) settle-accepted-requires (λ c. search rules) returns)

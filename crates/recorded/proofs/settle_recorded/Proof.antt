@@ -21,31 +21,29 @@ opened : (r : Record) (file : List ℕ) (room : ℕ)
 unfolding settle_recorded admit_rule
 opened r file room = sym (or_assoc (check_of file) (record_rule r (day_of file)) _)
 
-returns : tie.Need-returns
+returns : tie.Need-returns-then-number-ne0
 returns c =
-    let s = c.before.before.before.before.args in
+    let s = c.args in
     let r = s.given in
     let f = s.file.now in (
-      seq_stop _ _ _ _ _ (opened r f (length s.statement.now)) c.before.before.admit.ensures.0 c.before.number.ensures c.if1.true,
-      refused (days_by (record_days r (day_of f)) f) f _ s.statement.now (λ q. c.if1.true (c.before.number.ensures ∙ q)),
+      seq_stop _ _ _ _ _ (opened r f (length s.statement.now)) c.admit-told.ensures.0 c.number.ensures c.if-number-ne0.true,
+      refused (days_by (record_days r (day_of f)) f) f _ s.statement.now (λ q. c.if-number-ne0.true (c.number.ensures ∙ q)),
     )
 
-settle-after-requires : tie.Need-settle-after-requires
+settle-after-requires : tie.Need-settle_after-requires
 settle-after-requires c κs =
-    let e = c.before.before in
-    let admitted = sym e.before.number.ensures ∙ e.if1.false in
-    (sym (ap number_of e.before.before.admit.ensures.0) ∙ admitted, e.before.before.admit.ensures.1 admitted)
+    let admitted = sym c.number.ensures ∙ c.if-number-ne0.false in
+    (sym (ap number_of c.admit-told.ensures.0) ∙ admitted, c.admit-told.ensures.1 admitted)
 
-returns-2 : tie.Need-returns-2
+returns-2 : tie.Need-returns
 returns-2 c =
-    let e = c.before.before.before.before in
-    let s = e.before.before.before.before.args in
+    let s = c.args in
     let r = s.given in
     let f = s.file.now in
-    let settled = c.before.settle-after.ensures in
+    let settled = c.settle_after.ensures in
     let rule = opened r f (length s.statement.now) in
-    (settled.0 ∙ sym (seq_next _ _ _ _ _ rule e.before.before.admit.ensures.0 e.before.number.ensures e.if1.false), settled.1)
+    (settled.0 ∙ sym (seq_next _ _ _ _ _ rule c.admit-told.ensures.0 c.number.ensures c.if-number-ne0.false), settled.1)
 
-pub settle-recorded-spec : {M : Type 1} → statement M
-settle-recorded-spec =
+pub settle_recorded_spec : {M : Type 1} → statement M
+settle_recorded_spec =
     tie.close (tie.spec (λ c κs. search rules) (λ c κs. search rules) returns settle-after-requires (λ c. search rules) returns-2)

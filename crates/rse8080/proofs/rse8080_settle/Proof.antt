@@ -27,43 +27,35 @@ written : (file bytes : List ℕ) → number_of (verdict_of file bytes) ≡ 0
 unfolding bytes_after
 written file bytes accepted = rw (eq-eqb (number_of (verdict_of file bytes)) 0 accepted)
 
-abbrev start : tie.After-number → tie.Start
-start c = c.before.before.before.before
-
-accepted : (c : tie.Else1) → let s = (start c.before).args in number_of (verdict_of s.file.now s.statement.now) ≡ 0
-accepted c = ap number_of (sym c.before.before.answer.ensures) ∙ sym c.before.number.ensures ∙ c.if1.false
+accepted : (c : tie.Else-number-ne0) → let s = c.args in number_of (verdict_of s.file.now s.statement.now) ≡ 0
+accepted c = ap number_of (sym c.answer-answer.ensures) ∙ sym c.number.ensures ∙ c.if-number-ne0.false
 
 code-requires : tie.Need-code-requires
-code-requires c κs = let s = (start c.before).args in place_coded s.file.now (length s.statement.now / 8) _ c.before.before.answer.ensures
+code-requires c κs = let s = c.args in place_coded s.file.now (length s.statement.now / 8) _ c.answer-answer.ensures
 
-returns : tie.Need-returns
+returns : tie.Need-returns-then-number-ne0
 returns c =
-    let n = c.before.before in
-    let s = (start n).args in
-    let is = n.before.answer.ensures in
-    (c.code.ensures ∙ ap coded is, stay s.file.now s.statement.now _ is (λ z. c.before.if1.true (n.number.ensures ∙ z)))
+    let s = c.args in
+    let is = c.answer-answer.ensures in
+    (c.code.ensures ∙ ap coded is, stay s.file.now s.statement.now _ is (λ z. c.if-number-ne0.true (c.number.ensures ∙ z)))
 
-put-areas-requires : tie.Need-put-areas-requires
+put-areas-requires : tie.Need-put_areas-requires
 put-areas-requires c κs =
-    let e = c.before in
-    let f = (start e.before).args.file.now in
-    let room = length (start e.before).args.statement.now / 8 in
-    let z = check_accepts (days_by own_days f) f room (accepted e) in
-    ((sound_file f z, own_kept f z), omega (arith, room_enough (days_by own_days f) f room (accepted e)))
+    let f = c.args.file.now in
+    let room = length c.args.statement.now / 8 in
+    let z = check_accepts (days_by own_days f) f room (accepted c.before) in
+    ((sound_file f z, own_kept f z), omega (arith, room_enough (days_by own_days f) f room (accepted c.before)))
 
 code-requires-2 : tie.Need-code-requires-2
 code-requires-2 c κs =
-    let n = c.before.before.before.before.before in
-    let s = (start n).args in
-    place_coded s.file.now (length s.statement.now / 8) _ n.before.answer.ensures
+    let s = c.args in
+    place_coded s.file.now (length s.statement.now / 8) _ c.answer-answer.ensures
 
-returns-2 : tie.Need-returns-2
+returns-2 : tie.Need-returns
 returns-2 c =
-    let p = c.before.before.before in
-    let e = p.before.before in
-    let s = (start e.before).args in
-    (c.code2.ensures ∙ ap coded e.before.before.answer.ensures, p.put-areas.ensures ∙ written s.file.now s.statement.now (accepted e))
+    let s = c.args in
+    (c.code-2.ensures ∙ ap coded c.answer-answer.ensures, c.put_areas.ensures ∙ written s.file.now s.statement.now (accepted c.before.before.before.before.before))
 
-pub rse8080-settle-spec : {M : Type 1} → statement M
-rse8080-settle-spec =
+pub rse8080_settle_spec : {M : Type 1} → statement M
+rse8080_settle_spec =
     tie.close (tie.spec (λ c κs. search rules) (λ c κs. search rules) code-requires returns put-areas-requires code-requires-2 (λ c. search rules) returns-2)

@@ -1,5 +1,5 @@
 -- A file that is put together is accepted, and has the day, the areas and the bodies that it was given.
-use Prim.Native.Nat.{ℕ, zero, suc, ◌*◌, ◌≤◌, ◌<◌}
+use Prim.Native.Nat.{ℕ, ◌+◌, zero, suc, ◌*◌, ◌≤◌, ◌<◌}
 use mathlib.Core.Bool.{true}
 use mathlib.Core.List.{List, [], ◌∷◌, map}
 use mathlib.Core.Logic.{inl}
@@ -27,12 +27,12 @@ use Rattle.made.proofs.MadeBody.{body_long, kind_there, made_sound}
 rising_first : (low a : ℕ) (areas : List ℕ) → RisingNumbers low areas → a < low → (k : ℕ) → k < length areas → a < get_or areas k 0
 rising_first low a [] r h k p = absurd (omega arith)
 rising_first low a (b ∷ areas) r h zero p = omega arith
-rising_first low a (b ∷ areas) r h (suc k) p = rising_first _ a areas r.1 (omega arith) k (omega arith)
+rising_first low a (b ∷ areas) r h (suc k) p = rising_first (b + 1) a areas r.1 (omega arith) k (omega arith)
 
 rising_next : (low : ℕ) (areas : List ℕ) → RisingNumbers low areas → (k : ℕ) → suc k < length areas → get_or areas k 0 < get_or areas (suc k) 0
 rising_next low [] r k p = absurd (omega arith)
-rising_next low (a ∷ areas) r zero p = rising_first _ a areas r.1 (omega arith) 0 (omega arith)
-rising_next low (a ∷ areas) r (suc k) p = rising_next _ areas r.1 k (omega arith)
+rising_next low (a ∷ areas) r zero p = rising_first (a + 1) a areas r.1 (omega arith) 0 (omega arith)
+rising_next low (a ∷ areas) r (suc k) p = rising_next (a + 1) areas r.1 k (omega arith)
 
 -- ---- the file
 

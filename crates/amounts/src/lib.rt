@@ -173,7 +173,7 @@ pub fn hour_amounts(
     at: usize,
 ) -> Amounts
     requires at_hour { AtHour terms day body.now h at }
-    requires price_value { price.0 ≡ needed_price terms body.now h }
+    requires price_is_needed { price.0 ≡ needed_price terms body.now h }
     ensures { result ≡ amounts_of terms body.now h }
 {
     let flag = words::word(body, 1);

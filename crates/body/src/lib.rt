@@ -174,7 +174,7 @@ fn hours_from(
     count: usize,
 ) -> Told
     requires behind { Behind body.now kind load count first.hour first.at }
-    requires load_le_proved_points { (load ≤ proved_points) × ((start < 4294967296) × ((count < 4294967296) × (4 * body_words load count ≤ length body.now))) }
+    requires sizes { (load ≤ proved_points) × ((start < 4294967296) × ((count < 4294967296) × (4 * body_words load count ≤ length body.now))) }
     ensures answer_value { result.answer ≡ hours_rule start body.now load count }
     ensures plain_value { result.plain ≡ (eqb (number_of result.answer) 0 && plain_hours body.now kind load count day_hours) }
 {

@@ -143,7 +143,7 @@ fn refused(answer: Verdict) -> Told
 // The bodies of n entries whose contents are accepted, each handed on as its part of the file.
 fn bodies(limits: Limits, file: &[u8], n: usize) -> Told
     requires proved { (Proved limits) × (n ≤ proved_areas) }
-    requires le_n { (1 ≤ n) × ((16 + 12 * n ≤ length file.now) × (number_of (contents_rule limits.words file.now n) ≡ 0)) }
+    requires contents_accepted { (1 ≤ n) × ((16 + 12 * n ≤ length file.now) × (number_of (contents_rule limits.words file.now n) ≡ 0)) }
     ensures answer_value { result.answer ≡ bodies_rule limits file.now n }
     ensures plain_told { number_of result.answer ≡ 0 → PlainTold result.plain file.now n }
 {

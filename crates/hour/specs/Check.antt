@@ -13,10 +13,10 @@ abbrev pub range_rule : (place most number : ℕ) → Verdict
 range_rule place most number = rule leb number most else OutOfRange place then Accepted
 
 -- a pair of interval quantity and price, each with its place
-abbrev pub pair_rule : (quantityPlace pricePlace quantity price : ℕ) → Verdict
-pair_rule quantityPlace pricePlace quantity price =
-    rule leb quantity most_quantity else OutOfRange quantityPlace then
-    rule missing price || nat_le (unsigned_abs (signed_of price)) most_market_price else OutOfRange pricePlace then
+abbrev pub pair_rule : (quantity_place price_place quantity price : ℕ) → Verdict
+pair_rule quantity_place price_place quantity price =
+    rule leb quantity most_quantity else OutOfRange quantity_place then
+    rule missing price || nat_le (unsigned_abs (signed_of price)) most_market_price else OutOfRange price_place then
     Accepted
 
 -- a demand behind running demand `before`

@@ -217,8 +217,8 @@ fn holds(start: usize, size: usize, at: usize) -> bool
 // Of n entries the first whose body holds the word; n where none does.
 fn holder(file: &[u8], n: usize, at: usize) -> usize
     requires { n < 4294967296 }
-    ensures value { (result ≡ holder_from file.now at 0 n) × (result ≤ n) }
-    ensures result_bound { (result ≡ n → ⊥) → start_within file.now result ≤ at }
+    ensures found { (result ≡ holder_from file.now at 0 n) × (result ≤ n) }
+    ensures starts_before { (result ≡ n → ⊥) → start_within file.now result ≤ at }
 {
     let mut k: usize = 0;
     while k < n {

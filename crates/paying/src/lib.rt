@@ -108,8 +108,8 @@ pub fn pay_columns(bases: &[u32], n: usize, payments: &mut [i64])
 // Whether nothing was collected from any of n areas in any hour and direction: joined bit by bit, so that the compiler takes several numbers at a time.
 pub fn nothing_collected(payments: &[i64], n: usize) -> bool
     requires { day_payments * n ≤ length payments.now }
-    ensures zeros { result ≡ true → Zeros (day_payments * n) payments.now }
-    ensures value { Zeros (day_payments * n) payments.now → result ≡ true }
+    ensures only_if_zeros { result ≡ true → Zeros (day_payments * n) payments.now }
+    ensures if_zeros { Zeros (day_payments * n) payments.now → result ≡ true }
 {
     let end = limits::DAY_PAYMENTS * n;
     let mut joined: i64 = 0;

@@ -86,7 +86,7 @@ fn collect_areas(file: &[u8], n: usize, collected: &mut [i64])
 // The basis of each area that counts, area after area at the front of `counted`.
 fn count_bases(file: &[u8], basis: &[u32], n: usize, counted: &mut [u32])
     requires sound_file { (SoundFile file.now) × (n ≡ areas_of file.now) }
-    requires n_in_bounds { (day_hours * n ≤ length basis.now) × (day_payments * n ≤ length counted.old) }
+    requires rooms_long_enough { (day_hours * n ≤ length basis.now) × (day_payments * n ≤ length counted.old) }
     ensures { counted.new
         ≡ areas_to (basis_of file.now basis.now) n ++ drop (day_payments * n) counted.old }
 {

@@ -93,7 +93,7 @@ module _ (file basis : List ℕ) (lent : List ℤ) (z : number_of (pay_out_rule 
       let shown = shown_shares file basis lent z h direction below in
       record {
         shared = shown;
-        passing_only_lem = passing_only_lem file basis lent z h direction below;
+        among_passing = passing_only_lem file basis lent z h direction below;
         turned = T.turned (collected_at file h direction) (passing_basis file basis h direction) ∙ ap (map neg_ℤ) (sym shown);
         merged = λ i n. M.merged (collected_at file h direction) i n (passing_basis file basis h direction) ∙ ap (merged_at sum i n) (sym shown);
       }

@@ -79,7 +79,7 @@ passing_only pass k (number ∷ numbers) = cond (pass k) (number ∷ passing_onl
 pub record Shared (file basis : List ℕ) (left : List ℤ) (h : ℕ) (direction : Direction) : Type 0 where
   pub shared : payments_shown file left h direction ≡ shares (collected_at file h direction) (passing_basis file basis h direction)
   -- those of the areas that pass are the shares by the basis of these alone
-  pub passing_only_lem : shares (collected_at file h direction) (passing_only (λ k. passes (body_at file k) h direction) 0 (basis_at basis (areas_of file) h))
+  pub among_passing : shares (collected_at file h direction) (passing_only (λ k. passes (body_at file k) h direction) 0 (basis_at basis (areas_of file) h))
       ≡ passing_only (λ k. passes (body_at file k) h direction) 0 (payments_shown file left h direction)
   -- the negated amount would be paid out as the negated payments
   pub turned : shares (neg_ℤ (collected_at file h direction)) (passing_basis file basis h direction) ≡ map neg_ℤ (payments_shown file left h direction)

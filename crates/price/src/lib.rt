@@ -49,8 +49,8 @@ impl Sums {
 
     // One interval more: a missing price leaves its quantity out too.
     pub fn with_interval(mut self, quantity: u32, price: u32) -> Sums
-        requires quantity_bound { self.value.0 + 4294967295 * quantity < 2 ^ 64 }
-        requires quantity_bound_2 { (self.quantity.0 + quantity < 2 ^ 32) × (self.count + 1 < 2 ^ 32) }
+        requires value_fits { self.value.0 + 4294967295 * quantity < 2 ^ 64 }
+        requires quantity_and_count_fit { (self.quantity.0 + quantity < 2 ^ 32) × (self.count + 1 < 2 ^ 32) }
         ensures { result ≡ with_raised self quantity price }
     {
         let value = self.value;
@@ -78,7 +78,7 @@ impl Sums {
 
 // The average of the first n intervals.
 fn averaged(pairs: &[u8], n: usize) -> Average
-    requires n_le_proved_intervals { (n ≤ proved_intervals) × (8 * n ≤ length pairs.now) }
+    requires pairs_there { (n ≤ proved_intervals) × (8 * n ≤ length pairs.now) }
     requires ranged { Ranged pairs.now n }
     ensures { result ≡ average_of pairs.now n }
 {
@@ -93,7 +93,7 @@ fn averaged(pairs: &[u8], n: usize) -> Average
 
 // The price of n intervals whose numbers are in range: of a file that the check accepts, or past the call's own check.
 pub fn average_price(pairs: &[u8], n: usize) -> PriceAnswer
-    requires n_le_proved_intervals { (n ≤ proved_intervals) × (8 * n ≤ length pairs.now) }
+    requires pairs_there { (n ≤ proved_intervals) × (8 * n ≤ length pairs.now) }
     requires ranged { Ranged pairs.now n }
     ensures { result ≡ average_price pairs.now n }
 {

@@ -15,7 +15,7 @@ use surcharge::Terms;
 // The areas of a file, each lent its own part of the statement and settled with its own d.
 fn put_areas(file: &[u8], bytes: &mut [u8])
     requires sound_file { (SoundFile file.now) × (DaysKept (days_by own_days file.now) file.now) }
-    requires file_in_bounds { 8 * needed_to file.now (areas_of file.now) ≤ length bytes.old }
+    requires blocks_fit { 8 * needed_to file.now (areas_of file.now) ≤ length bytes.old }
     ensures { bytes.new ≡ encoded (statement_to (days_by own_days file.now) file.now (areas_of file.now))
         ++ drop (8 * needed_to file.now (areas_of file.now)) bytes.old }
 {

@@ -60,8 +60,8 @@ fn terms_of(peak: u32, days: &[u32], k: usize, body: &[u8]) -> Terms
 
 // The statement of an area at the front of its part. It is written as bytes into `room` first, so that what writes an area stands once.
 fn area_into_numbers(terms: Terms, body: &[u8], room: &mut [u8], statement: &mut [i64])
-    requires terms_kept { (TermsKept terms) × (Sound proved_points body.now) }
-    requires most_coordinators_in_bounds { (8 * area_numbers most_coordinators ≤ length room.old) × (area_numbers (coordinators_of body.now) ≤ length statement.old) }
+    requires terms_and_body { (TermsKept terms) × (Sound proved_points body.now) }
+    requires rooms_long_enough { (8 * area_numbers most_coordinators ≤ length room.old) × (area_numbers (coordinators_of body.now) ≤ length statement.old) }
     ensures { statement.new ≡ block terms body.now
         ++ drop (area_numbers (coordinators_of body.now)) statement.old }
 {
@@ -73,7 +73,7 @@ fn area_into_numbers(terms: Terms, body: &[u8], room: &mut [u8], statement: &mut
 // The blocks of n areas, each lent its own part of the statement.
 fn write_areas(peak: u32, days: &[u32], file: &[u8], n: usize, statement: &mut [i64])
     requires settleable { (Settleable days.now file.now) × ((n ≡ areas_of file.now) × (peak ≡ peak_of file.now)) }
-    requires n_in_bounds { needed_to file.now n ≤ length statement.old }
+    requires blocks_fit { needed_to file.now n ≤ length statement.old }
     ensures { statement.new ≡ statement_to (listed days.now file.now) file.now n
         ++ drop (needed_to file.now n) statement.old }
 {
@@ -157,8 +157,8 @@ fn check_hours(terms: Terms, start: usize, body: &[u8]) -> Verdict
 
 // The first refusal among the hours of an area: none of a plain one.
 fn check_area(plain: bool, terms: Terms, start: usize, body: &[u8]) -> Verdict
-    requires terms_kept { (TermsKept terms) × ((Sound proved_points body.now) × (start < 4294967296)) }
-    requires plain_value { plain ≡ plain_area body.now }
+    requires terms_body_and_start { (TermsKept terms) × ((Sound proved_points body.now) × (start < 4294967296)) }
+    requires plain_told { plain ≡ plain_area body.now }
     ensures { result ≡ hours_refusal terms start body.now }
 {
     if plain {

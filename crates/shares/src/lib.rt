@@ -100,8 +100,8 @@ fn reached(bound: u64, number: u64) -> u64
 // R(|A| × C / T) at running demand C, without a division by T: the whole cents, and a guess of what the rest comes to, which is at most one too small, so
 // that half of T and three halves tell what it lacks. All factors but the whole cents have 32 bits, which the processor multiplies fastest.
 fn nearest(whole: u32, rates: Rates, running: u32) -> u64
-    requires whole_nonzero { (0 < whole) × ((whole ≤ most_demand) × (running ≤ whole)) }
-    requires whole_bound { (rates.each * whole < 2 ^ 63) × ((rates.rest < whole) × (rates.part ≡ rates.rest * rate_parts / whole)) }
+    requires whole_in_range { (0 < whole) × ((whole ≤ most_demand) × (running ≤ whole)) }
+    requires rates_of_whole { (rates.each * whole < 2 ^ 63) × ((rates.rest < whole) × (rates.part ≡ rates.rest * rate_parts / whole)) }
     ensures { result ≡ rates.each * running + half_up (rates.rest * running) whole }
 {
     let divisor = whole as u64;

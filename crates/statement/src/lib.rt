@@ -37,9 +37,9 @@ pub fn area_numbers(count: usize) -> usize
 
 // The charges of an hour at the front of a block.
 fn write_charges(kind: u32, amount: i64, body: &[u8], from: usize, count: usize, charges: &mut [u8])
-    requires amount_bound { (nat_abs amount ≤ most_amount) × ((1 ≤ count) × (8 * count ≤ length charges.old)) }
-    requires count_in_bounds { (4 * (from + count) ≤ length body.now) × (total (words_from body.now from count) ≤ most_demand) }
-    requires count_value { (kind ≡ 1 → ⊥) → count ≡ 1 }
+    requires amount_and_room { (nat_abs amount ≤ most_amount) × ((1 ≤ count) × (8 * count ≤ length charges.old)) }
+    requires demands_in_body { (4 * (from + count) ≤ length body.now) × (total (words_from body.now from count) ≤ most_demand) }
+    requires one_unless_ciso { (kind ≡ 1 → ⊥) → count ≡ 1 }
     ensures { charges.new ≡ encoded (charges_from kind amount body.now from count) ++ drop (8 * count) charges.old }
 {
     if kind != 1 {
@@ -79,7 +79,7 @@ fn hour_charges(amount: i64, body: &[u8], at: usize, charges: &mut [u8])
 // Hour h, which starts at word `at`, at the front of a block. `day` has the facts of the area's day.
 fn write_hour(terms: Terms, day: Day, body: &[u8], h: usize, at: usize, block: &mut [u8])
     requires at_hour { AtHour terms day body.now h at }
-    requires body_in_bounds { 8 * hour_numbers (coordinators_of body.now) ≤ length block.old }
+    requires hour_fits { 8 * hour_numbers (coordinators_of body.now) ≤ length block.old }
     ensures { block.new ≡ encoded (hour_block terms body.now h)
         ++ drop (8 * hour_numbers (coordinators_of body.now)) block.old }
 {
@@ -92,8 +92,8 @@ fn write_hour(terms: Terms, day: Day, body: &[u8], h: usize, at: usize, block: &
 
 // The 24 hours of an area at the front of its part of the statement, each hour lent its own part of that.
 pub fn write_area(terms: Terms, body: &[u8], statement: &mut [u8])
-    requires terms_kept { (TermsKept terms) × (Sound proved_points body.now) }
-    requires body_in_bounds { 8 * area_numbers (coordinators_of body.now) ≤ length statement.old }
+    requires terms_and_body { (TermsKept terms) × (Sound proved_points body.now) }
+    requires area_fits { 8 * area_numbers (coordinators_of body.now) ≤ length statement.old }
     ensures { statement.new ≡ encoded (block terms body.now)
         ++ drop (8 * area_numbers (coordinators_of body.now)) statement.old }
 {

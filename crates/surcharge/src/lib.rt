@@ -118,7 +118,7 @@ pub fn downward(terms: Terms, quantity: Quantity, mec: MarketPrice) -> Cents
 // Of the hour's own U and tier.
 pub fn off_peak(terms: Terms, upward: Quantity, tier: u32, price: MarketPrice) -> Cents
     requires terms_kept { TermsKept terms }
-    requires upward_le_most_upward { (upward.0 ≤ most_upward) × (nat_abs price.0 ≤ most_market_price) }
+    requires in_range { (upward.0 ≤ most_upward) × (nat_abs price.0 ≤ most_market_price) }
     ensures { result.0 ≡ off_peak_of terms upward.0 tier price.0 }
 {
     if tier <= 1 {

@@ -53,8 +53,8 @@ module _ (d : ℕ → List ℕ → ℕ) (file : List ℕ) (statement : List ℤ)
       record {
         hours = λ k h p q.
             record {
-              on_peak_lem = on_peak_shown_lem d file statement z k h p q;
-              off_peak_lem = off_peak_shown_lem d file statement z k h p q;
+              on_peak = on_peak_shown_lem d file statement z k h p q;
+              off_peak = off_peak_shown_lem d file statement z k h p q;
               downward = downward_shown_lem d file statement z k h p q;
               surcharge = surcharge_shown_lem d file statement z k h p q;
               credit = credit_shown_lem d file statement z k h p q;

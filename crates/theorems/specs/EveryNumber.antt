@@ -10,8 +10,8 @@ use Rattle.settlement.specs.Shown.{statement_left_by, on_peak_shown, off_peak_sh
 
 -- hour h of area k
 pub record HourNumbers (d : ℕ → List ℕ → ℕ) (file : List ℕ) (left : List ℤ) (k h : ℕ) : Type 0 where
-  pub on_peak_lem : on_peak_shown file k h left ≡ on_peak_amount (terms_by d file k) (body_at file k) h
-  pub off_peak_lem : off_peak_shown file k h left ≡ off_peak_amount (terms_by d file k) (body_at file k) h
+  pub on_peak : on_peak_shown file k h left ≡ on_peak_amount (terms_by d file k) (body_at file k) h
+  pub off_peak : off_peak_shown file k h left ≡ off_peak_amount (terms_by d file k) (body_at file k) h
   pub downward : downward_shown file k h left ≡ downward_amount (terms_by d file k) (body_at file k) h
   pub surcharge : surcharge_shown file k h left ≡ surcharge_at (terms_by d file k) (body_at file k) h
   pub credit : credit_shown file k h left ≡ credit_at (terms_by d file k) (body_at file k) h

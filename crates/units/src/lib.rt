@@ -132,7 +132,7 @@ impl CentsOver100000 {
     // The price of each MWh of a quantity that costs this.
     pub fn per(self, quantity: Quantity) -> MarketPrice
         requires quantity_nonzero { 0 < quantity.0 }
-        requires sfits { SFits w32 (round_div self.0 quantity.0) }
+        requires price_fits { SFits w32 (round_div self.0 quantity.0) }
         ensures { result.0 ≡ round_div self.0 quantity.0 }
     {
         MarketPrice(exact::round_div(self.0, quantity.0) as i32)

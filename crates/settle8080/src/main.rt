@@ -110,8 +110,8 @@ fn with_area(
     let n = coordinators(body);
     let mut total = before;
     let mut at: usize = statement::AMOUNTS_SHOWN;
-    for hour in 1..=limits::DAY_HOURS {
-        total = with_hour(rt, total, area, body, hour, reading::part(block, at))?;
+    for h in 0..limits::DAY_HOURS {
+        total = with_hour(rt, total, area, body, h + 1, reading::part(block, at))?;
         at += statement::hour_numbers(n);
     }
     Ok(total)

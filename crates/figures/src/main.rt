@@ -98,7 +98,8 @@ fn quiet_day(peak: u32, days: u32, hub_a: u32, hub_b: u32) -> [u8; ROOM] {
         hub_b,
     );
     for hour in 0..limits::DAY_HOURS as u8 {
-        day = put_pairs(day, first_interval(hour), 12, 0, limits::MISSING_PRICE);
+        let next = put_pairs(day, first_interval(hour), 12, 0, limits::MISSING_PRICE);
+        day = next;
     }
     day
 }
@@ -173,7 +174,8 @@ fn failed_day() -> [u8; ROOM] {
     let quiet = quiet_day(limits::PEAK_WORD, 3, 8000, 9550);
     let mut day = put_deficiency(put_deficiency(quiet, 7, 120000, 1000000), 8, 5000, 1000000);
     for hour in 6..22 {
-        day = put_price(day, hour, 600000);
+        let next = put_price(day, hour, 600000);
+        day = next;
     }
     day
 }
@@ -441,7 +443,8 @@ fn failing_days(rt: &impl Print) -> io::Result<()> {
 fn put_coordinators(before: [u8; ROOM]) -> [u8; ROOM] {
     let mut day = before;
     for i in 0..limits::MOST_COORDINATORS {
-        day = put(day, 14 + i, 1 + (i as u32));
+        let next = put(day, 14 + i, 1 + (i as u32));
+        day = next;
     }
     day
 }

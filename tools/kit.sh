@@ -2,12 +2,10 @@
 # has a function `stop`. Sets `kit_root`, the top of the repository, and `kit_id`, the kit's one line.
 
 kit_root=$(dirname "$(dirname "$(readlink -f "${BASH_SOURCE[0]}")")")
-# The kit is the one whose rt is on PATH. Without rt a program that is built still runs, as that of the kit that was kept.
+# The kit is the one whose rt is on PATH. Without rt, or without the Python that it runs by, a program that is built still runs, as that of the kit that was kept.
 kit_kept=$kit_root/target/kit
 rt_missing='the command rt is not found: install the Rattle kit, and put its command rt on PATH.'
-if command -v rt >/dev/null; then
-    kit_id=$(rt version)
-elif ! { read -r kit_id <"$kit_kept"; } 2>/dev/null; then
+if ! kit_id=$(rt version 2>/dev/null) && ! { read -r kit_id <"$kit_kept"; } 2>/dev/null; then
     stop "$rt_missing"
 fi
 

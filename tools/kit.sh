@@ -31,7 +31,7 @@ digest_of() ( # PROGRAM
     mapfile -t folders < <(crates_of "$1" | sed 's,^,crates/,')
     {
         printf '%s\n' "$kit_id"
-        find crates.txt "${folders[@]}" -type f \( -path crates.txt -o -path 'crates/*/src/*' -o -path 'crates/*/specs/*' -o -path 'crates/*/proofs/*' \) -print0 |
+        find crates.txt "${folders[@]}" -name out -prune -o -type f \( -path crates.txt -o -path 'crates/*/src/*' -o -path 'crates/*/specs/*' -o -path 'crates/*/proofs/*' \) -print0 |
             LC_ALL=C sort -z | xargs -0 sha256sum
     } 2>/dev/null | sha256sum | cut -d ' ' -f 1
 )

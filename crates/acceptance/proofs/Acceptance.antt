@@ -14,9 +14,8 @@ use Rattle.words.specs.Word.{word_at}
 use Rattle.limits.specs.declared.Limits.{Limits}
 use Rattle.limits.specs.Editions.{limits_of, bytes_allowed}
 use Rattle.limits.proofs.Editions.{bytes_within, bytes_test}
-use Rattle.verdict.specs.declared.Verdict.{Verdict}
-use Rattle.verdict.specs.declared.Verdict.TheVariants.{BadLength}
-use Rattle.verdict.specs.Verdict.{number_of, place_of}
+use Rattle.verdict.specs.declared.Refusal.TheVariants.{BadLength}
+use Rattle.verdict.specs.Verdict.{number_of, place_of, Verdict}
 use Rattle.verdict.specs.First.{◌or_else◌}
 use Rattle.verdict.proofs.First.{both}
 use Rattle.body.proofs.Kept.{kept_by}

@@ -9,10 +9,11 @@ use lib.Dec.{leb, ltb, eqb}
 use lib.IntN.{nat_abs}
 use lib.ListN.{length}
 use borrow.Author.Tests.{eqb-true, eq-eqb}
+use Rattle.verdict.specs.Verdict.{Accepted}
 use Rattle.words.specs.Word.{word_at, signed_of}
 use Rattle.limits.specs.declared.Limits.{Limits}
 use Rattle.limits.specs.Ranges.{day_hours, most_hub_price, most_days, largest_number}
-use Rattle.verdict.specs.declared.Verdict.TheVariants.{Accepted, BadContents, BadBodyHead, BadCoordinator}
+use Rattle.verdict.specs.declared.Refusal.TheVariants.{BadContents, BadBodyHead, BadCoordinator}
 use Rattle.hour.specs.Layout.{hour_words}
 use Rattle.body.specs.Layout.{body_words, hour_start, coordinator_before}
 use Rattle.body.specs.Check.{most_of_kind, body_head_rule, coordinator_count_rule, coordinator_rule, body_head_of, front_rule, coordinator_rule_at}

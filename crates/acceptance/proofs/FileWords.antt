@@ -14,8 +14,8 @@ use Rattle.limits.specs.declared.Limits.{Limits}
 use Rattle.limits.specs.Ranges.{largest_number, least_body_words, peak_word}
 use Rattle.limits.specs.Editions.{edition_known, KnownEdition}
 use Rattle.calendar.specs.Date.{real_date}
-use Rattle.verdict.specs.declared.Verdict.TheVariants.{Accepted, BadEdition, BadAreaCount, BadDate, BadPeakHours, BadContents}
-use Rattle.verdict.specs.Verdict.{number_of}
+use Rattle.verdict.specs.declared.Refusal.TheVariants.{BadEdition, BadAreaCount, BadDate, BadPeakHours, BadContents}
+use Rattle.verdict.specs.Verdict.{number_of, Accepted}
 use Rattle.verdict.specs.First.{◌or_else◌}
 use Rattle.verdict.proofs.First.{both}
 use Rattle.contents.specs.File.{number_at, start_at, size_at, number_before, due_at, body_at}

@@ -7,8 +7,9 @@ use native.Mathlib.Omega.{arith}
 use lib.Dec.{leb}
 use lib.IntN.{nat_abs}
 use borrow.Author.Tests.{leb-true, le-leb}
+use Rattle.verdict.specs.Verdict.{Accepted}
 use Rattle.words.specs.Word.{word_at, signed_of}
-use Rattle.verdict.specs.declared.Verdict.TheVariants.{Accepted, OutOfRange, RunningDemandTooLarge}
+use Rattle.verdict.specs.declared.Refusal.TheVariants.{OutOfRange, RunningDemandTooLarge}
 use Rattle.words.specs.Bytes.{words_from}
 use Rattle.exact.specs.Total.{total}
 use Rattle.limits.specs.Ranges.{most_deficiency, most_requirement, most_market_price, most_quantity, most_demand}

@@ -7,9 +7,7 @@ use native.Mathlib.Decide.{dec_lt}
 use native.Mathlib.Omega.{arith}
 use lib.Dec.{eqb, leb}
 use borrow.Author.Tests.{eqb-true, eqb-false, leb-true, le-leb}
-use Rattle.verdict.specs.declared.Verdict.{Verdict}
-use Rattle.verdict.specs.declared.Verdict.TheVariants.{Accepted}
-use Rattle.verdict.specs.Verdict.{number_of, place_of}
+use Rattle.verdict.specs.Verdict.{number_of, place_of, Accepted, Verdict}
 use Rattle.verdict.specs.First.{rule◌else◌then◌, ◌or_else◌, scan}
 use Rattle.verdict.proofs.First.{seq_stop, seq_next}
 

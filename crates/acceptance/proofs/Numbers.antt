@@ -19,10 +19,9 @@ use Rattle.limits.specs.Ranges.{day_hours, most_deficiency, most_requirement, mo
 use Rattle.limits.specs.Ranges.{largest_number, least_body_words, peak_word}
 use Rattle.limits.specs.Editions.{edition_known}
 use Rattle.calendar.specs.Date.{real_date}
-use Rattle.verdict.specs.declared.Verdict.{Verdict}
-use Rattle.verdict.specs.declared.Verdict.TheVariants.{Accepted, BadEdition, BadDate, BadAreaCount, BadPeakHours, BadContents, BadBodyHead}
-use Rattle.verdict.specs.declared.Verdict.TheVariants.{BadCoordinator, OutOfRange, RunningDemandTooLarge}
-use Rattle.verdict.specs.Verdict.{number_of, place_of}
+use Rattle.verdict.specs.declared.Refusal.TheVariants.{BadEdition, BadDate, BadAreaCount, BadPeakHours, BadContents, BadBodyHead}
+use Rattle.verdict.specs.declared.Refusal.TheVariants.{BadCoordinator, OutOfRange, RunningDemandTooLarge}
+use Rattle.verdict.specs.Verdict.{number_of, place_of, Accepted, Verdict}
 use Rattle.verdict.specs.First.{rule◌else◌then◌, ◌or_else◌}
 use Rattle.verdict.proofs.First.{Holds, rule_holds, or_holds, scan_holds}
 use Rattle.hour.specs.Layout.{missing, hour_words}

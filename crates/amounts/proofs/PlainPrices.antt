@@ -7,10 +7,10 @@ use native.Mathlib.Nat.{add-zero, le_refl}
 use native.Mathlib.Omega.{arith}
 use lib.Dec.{eqb, leb}
 use borrow.Author.Tests.{not-true}
+use Rattle.verdict.specs.Verdict.{Accepted}
 use Rattle.words.specs.Word.{word_at}
 use Rattle.words.proofs.Part.{word_part}
 use Rattle.limits.specs.Ranges.{least_present}
-use Rattle.verdict.specs.declared.Verdict.TheVariants.{Accepted}
 use Rattle.hour.specs.Layout.{missing}
 use Rattle.hour.specs.Plain.{present_from, quantity_from}
 use Rattle.body.specs.Layout.{points_of}

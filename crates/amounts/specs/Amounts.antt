@@ -2,8 +2,8 @@
 use Rattle.std.specs.Prelude.{ℕ, zero, suc, ◌+◌, ◌*◌, max, Bool, cond, not, ◌&&◌, List, eqb, leb, ℤ, pos, ◌+ℤ◌, take, drop}
 use Rattle.words.specs.Word.{word_at}
 use Rattle.limits.specs.Ranges.{day_hours, least_present}
-use Rattle.verdict.specs.declared.Verdict.{Verdict}
-use Rattle.verdict.specs.declared.Verdict.TheVariants.{Accepted, PriceWithoutQuantity, TooFewIntervals}
+use Rattle.verdict.specs.Verdict.{Accepted, Verdict}
+use Rattle.verdict.specs.declared.Refusal.TheVariants.{PriceWithoutQuantity, TooFewIntervals}
 use Rattle.verdict.specs.First.{rule◌else◌then◌}
 use Rattle.body.specs.Layout.{flag_of, hub_price_a, hub_price_b, points_of, hour_at, requirement_at, mec_at, intervals_at}
 use Rattle.price.specs.declared.PriceAnswer.{PriceAnswer}

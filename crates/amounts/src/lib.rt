@@ -14,7 +14,7 @@ ghost use Rattle.amounts.specs.Ranges.{HourRanged, PairsRanged, AtHour, AmountsR
 use price::PriceAnswer;
 use surcharge::{Day, Terms};
 use units::{Cents, HubPrice, MarketPrice, Quantity};
-use verdict::Verdict;
+use verdict::Refusal;
 
 // U and the tier of an hour.
 #[derive(Clone, Copy)]
@@ -224,17 +224,17 @@ pub fn amount_of(amounts: Amounts) -> Cents
 }
 
 // Whether a needed price of `load` load points can be settled with. Its first interval word is at `place` of the file.
-fn usable(place: usize, load: usize, answer: PriceAnswer) -> Verdict
+fn usable(place: usize, load: usize, answer: PriceAnswer) -> Result<(), Refusal>
     requires { load ≤ proved_points }
     ensures { result ≡ usable_rule place load answer }
 {
     if (price::count_of(answer) as usize) < limits::LEAST_PRESENT * load {
-        return Verdict::TooFewIntervals { place };
+        return Err(Refusal::TooFewIntervals { place });
     }
     if price::number(answer) == 11 {
-        return Verdict::PriceWithoutQuantity { place };
+        return Err(Refusal::PriceWithoutQuantity { place });
     }
-    Verdict::Accepted
+    Ok(())
 }
 
 // What the price of hour h refuses, where it is needed, in the body that starts at word `start` of the file.
@@ -245,12 +245,12 @@ pub fn check_price(
     body: &[u8],
     h: usize,
     at: usize,
-) -> Verdict
+) -> Result<(), Refusal>
     requires { (AtHour terms day body.now h at) × (start < 4294967296) }
     ensures { result ≡ price_rule terms start body.now h }
 {
     if !price_asked(terms, day, body, h, at) {
-        return Verdict::Accepted;
+        return Ok(());
     }
     let load = words::word(body, 5) as usize;
     usable(start + (at + 8), load, hour_price(body, load, at + 8))

@@ -8,8 +8,7 @@ use lib.Dec.{eqb}
 use borrow.Author.Count.{below_more}
 use borrow.Author.Tests.{ne_eqb}
 use Rattle.limits.specs.Ranges.{day_hours}
-use Rattle.verdict.specs.declared.Verdict.{Verdict}
-use Rattle.verdict.specs.Verdict.{number_of}
+use Rattle.verdict.specs.Verdict.{number_of, Verdict}
 use Rattle.verdict.specs.First.{scan}
 use Rattle.verdict.proofs.First.{both, scan_past}
 use Rattle.hour.specs.Plain.{plain_hour}

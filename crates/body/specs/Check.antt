@@ -3,8 +3,8 @@ use Rattle.std.specs.Prelude.{ℕ, ◌+◌, ◌/◌, cond, ◌&&◌, List, eqb, 
 use Rattle.words.specs.Word.{word_at, signed_of}
 use Rattle.limits.specs.declared.Limits.{Limits}
 use Rattle.limits.specs.Ranges.{day_hours, most_hub_price, most_days, largest_number, most_coordinators}
-use Rattle.verdict.specs.declared.Verdict.{Verdict}
-use Rattle.verdict.specs.declared.Verdict.TheVariants.{Accepted, BadContents, BadBodyHead, BadCoordinator}
+use Rattle.verdict.specs.Verdict.{Accepted, Verdict}
+use Rattle.verdict.specs.declared.Refusal.TheVariants.{BadContents, BadBodyHead, BadCoordinator}
 use Rattle.verdict.specs.First.{rule◌else◌then◌, ◌or_else◌, scan}
 use Rattle.hour.specs.Check.{hour_rule}
 use Rattle.body.specs.Layout.{body_words, hour_start, coordinator_before}

@@ -12,7 +12,7 @@ ghost use Rattle.body.specs.Plain.{plain_hours, plain_area, Behind};
 
 use hour::Told;
 use limits::Limits;
-use verdict::Verdict;
+use verdict::Refusal;
 
 // The first six words of the head, the hub prices A and B by their magnitude.
 fn head_words(
@@ -25,35 +25,35 @@ fn head_words(
     a: u32,
     b: u32,
     load: u32,
-) -> Verdict
+) -> Result<(), Refusal>
     requires { (ciso ≤ 1) × (start < 4294967296) }
     ensures { result ≡ body_head_rule points ciso start kind flag days a b load }
 {
     if 1 < kind {
-        return Verdict::BadBodyHead { word: start };
+        return Err(Refusal::BadBodyHead { word: start });
     }
     if 1 < ciso + kind {
-        return Verdict::BadBodyHead { word: start };
+        return Err(Refusal::BadBodyHead { word: start });
     }
     if 1 < flag {
-        return Verdict::BadBodyHead { word: start + 1 };
+        return Err(Refusal::BadBodyHead { word: start + 1 });
     }
     if limits::MOST_DAYS < days {
-        return Verdict::BadBodyHead { word: start + 2 };
+        return Err(Refusal::BadBodyHead { word: start + 2 });
     }
     if limits::MOST_HUB_PRICE < a {
-        return Verdict::BadBodyHead { word: start + 3 };
+        return Err(Refusal::BadBodyHead { word: start + 3 });
     }
     if limits::MOST_HUB_PRICE < b {
-        return Verdict::BadBodyHead { word: start + 4 };
+        return Err(Refusal::BadBodyHead { word: start + 4 });
     }
     if load < 1 {
-        return Verdict::BadBodyHead { word: start + 5 };
+        return Err(Refusal::BadBodyHead { word: start + 5 });
     }
     if points < load {
-        return Verdict::BadBodyHead { word: start + 5 };
+        return Err(Refusal::BadBodyHead { word: start + 5 });
     }
-    Verdict::Accepted
+    Ok(())
 }
 
 fn most_of_kind(kind: u32) -> usize
@@ -66,35 +66,35 @@ fn most_of_kind(kind: u32) -> usize
 }
 
 // The word of K.
-fn count(start: usize, size: usize, most: usize, load: usize, count: usize) -> Verdict
+fn count(start: usize, size: usize, most: usize, load: usize, count: usize) -> Result<(), Refusal>
     requires { (start < 4294967296) × ((load < 4294967296) × (count < 4294967296)) }
     ensures { result ≡ coordinator_count_rule start size most load count }
 {
     if count < 1 {
-        return Verdict::BadBodyHead { word: start + 6 };
+        return Err(Refusal::BadBodyHead { word: start + 6 });
     }
     if most < count {
-        return Verdict::BadBodyHead { word: start + 6 };
+        return Err(Refusal::BadBodyHead { word: start + 6 });
     }
     if size != 7 + count + limits::DAY_HOURS * (8 + 24 * load + count) {
-        return Verdict::BadContents { word: start + 6 };
+        return Err(Refusal::BadContents { word: start + 6 });
     }
-    Verdict::Accepted
+    Ok(())
 }
 
-pub fn coordinator(place: usize, before: u32, number: u32) -> Verdict
+pub fn coordinator(place: usize, before: u32, number: u32) -> Result<(), Refusal>
     ensures { result ≡ coordinator_rule place before number }
 {
     if number <= before {
-        return Verdict::BadCoordinator { place };
+        return Err(Refusal::BadCoordinator { place });
     }
     if limits::LARGEST_NUMBER < number {
-        return Verdict::BadCoordinator { place };
+        return Err(Refusal::BadCoordinator { place });
     }
-    Verdict::Accepted
+    Ok(())
 }
 
-fn coordinators(start: usize, body: &[u8], count: usize) -> Verdict
+fn coordinators(start: usize, body: &[u8], count: usize) -> Result<(), Refusal>
     requires { (start < 4294967296) × (4 * (7 + count) ≤ length body.now) }
     ensures { result ≡ coordinators_rule start body.now count }
 {
@@ -102,14 +102,11 @@ fn coordinators(start: usize, body: &[u8], count: usize) -> Verdict
     let mut i: usize = 0;
     while i < count {
         let number = words::word(body, 7 + i);
-        let v = coordinator(start + (7 + i), before, number);
-        if verdict::number(v) != 0 {
-            return v;
-        }
+        coordinator(start + (7 + i), before, number)?;
         before = number;
         i += 1;
     }
-    Verdict::Accepted
+    Ok(())
 }
 
 // ---- the walk over the hours
@@ -197,7 +194,7 @@ fn hours_from(
     }
 }
 
-fn head(points: u32, ciso: u32, start: usize, body: &[u8]) -> Verdict
+fn head(points: u32, ciso: u32, start: usize, body: &[u8]) -> Result<(), Refusal>
     requires { (ciso ≤ 1) × ((start < 4294967296) × (28 ≤ length body.now)) }
     ensures { result ≡ body_head_of start body.now points ciso }
 {
@@ -211,14 +208,11 @@ fn head(points: u32, ciso: u32, start: usize, body: &[u8]) -> Verdict
 }
 
 // The seven words of the head.
-fn front(points: u32, ciso: u32, start: usize, body: &[u8]) -> Verdict
+fn front(points: u32, ciso: u32, start: usize, body: &[u8]) -> Result<(), Refusal>
     requires { (ciso ≤ 1) × ((start < 4294967296) × (28 ≤ length body.now)) }
     ensures { result ≡ front_rule start body.now points ciso }
 {
-    let first = head(points, ciso, start, body);
-    if verdict::number(first) != 0 {
-        return first;
-    }
+    head(points, ciso, start, body)?;
     let most = most_of_kind(words::word(body, 0));
     let load = words::word(body, 5) as usize;
     let k = words::word(body, 6) as usize;

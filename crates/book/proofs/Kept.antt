@@ -27,9 +27,9 @@ pub record Entry (words before due date start size : ℕ) : Type 0 where
 pub entry_kept : (words at before due date start size : ℕ) → number_of (entry_rule words at before due date start size) ≡ 0
     → Entry words before due date start size
 entry_kept words at before due date start size z =
-    let a = kept (real_date date && ltb before date) _ _ (λ q. omega arith) z in
-    let b = kept (eqb start due) _ _ (λ q. omega arith) a.1 in
-    let d = kept (leb least_day_words size && leb (due + size) words) _ _ (λ q. omega arith) b.1 in
+    let a = kept (real_date date && ltb before date) _ _ z in
+    let b = kept (eqb start due) _ _ a.1 in
+    let d = kept (leb least_day_words size && leb (due + size) words) _ _ b.1 in
     let e = both (real_date date) _ a.0 in
     let f = both (leb least_day_words size) _ d.0 in
     record { real = e.0; above = ltb-true _ _ e.1; there = eqb-true _ _ b.0; long = leb-true _ _ f.0; inside = leb-true _ _ f.1 }
@@ -57,8 +57,8 @@ module _ (room : List ℕ) where
         × (number_of (scan (entry_rule_at room) 0 (count_of room) or_else scan (date_rule_at room) 0 (count_of room)) ≡ 0)
     unfolding book_rule
     opened =
-        let a = kept (leb 2 (room_words room) && eqb (word_at room 0) 1) _ _ (λ q. omega arith) accepted in
-        let b = kept (leb (count_of room) most_book_days && leb (2 + 3 * count_of room) (room_words room)) _ _ (λ q. omega arith) a.1 in
+        let a = kept (leb 2 (room_words room) && eqb (word_at room 0) 1) _ _ accepted in
+        let b = kept (leb (count_of room) most_book_days && leb (2 + 3 * count_of room) (room_words room)) _ _ a.1 in
         let d = both (leb 2 (room_words room)) _ a.0 in
         let e = both (leb (count_of room) most_book_days) _ b.0 in
         let fits : 2 + 3 * count_of room ≤ room_words room = leb-true _ _ e.1 in
@@ -80,4 +80,4 @@ module _ (room : List ℕ) where
     unfolding date_rule_at
     date_at_lem k h =
         let z = scan_each (date_rule_at room) (count_of room) (or_second (scan (entry_rule_at room) 0 (count_of room)) _ opened.3) k h in
-        eqb-true _ _ (kept (eqb (word_at room (start_at room k + 1)) (date_at room k)) _ _ (λ q. omega arith) z).0
+        eqb-true _ _ (kept (eqb (word_at room (start_at room k + 1)) (date_at room k)) _ _ z).0

@@ -2,8 +2,8 @@
 use Rattle.std.specs.Prelude.{ℕ, ◌+◌, ◌*◌, ◌&&◌, List, eqb, leb, ltb}
 use Rattle.words.specs.Word.{word_at}
 use Rattle.calendar.specs.Date.{real_date}
-use Rattle.verdict.specs.declared.Verdict.{Verdict}
-use Rattle.verdict.specs.declared.Verdict.TheVariants.{Accepted, BadBook}
+use Rattle.verdict.specs.Verdict.{Accepted, Verdict}
+use Rattle.verdict.specs.declared.Refusal.TheVariants.{BadBook}
 use Rattle.verdict.specs.First.{rule◌else◌then◌, ◌or_else◌, scan}
 use Rattle.book.specs.Read.{room_words, count_of, date_at, start_at, size_at, date_before, due_at}
 

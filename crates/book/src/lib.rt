@@ -8,7 +8,7 @@ ghost use Rattle.book.specs.Read.{count_of, start_at, size_at, due_at};
 ghost use Rattle.book.specs.Check.{most_book_days, entry_rule, entry_rule_at, date_rule_at, book_rule};
 ghost use Rattle.book.specs.Sound.{Sound};
 
-use verdict::Verdict;
+use verdict::Refusal;
 
 pub const MOST_BOOK_DAYS: usize = 31;
 
@@ -23,99 +23,89 @@ fn entry(
     date: u32,
     start: usize,
     size: usize,
-) -> Verdict
+) -> Result<(), Refusal>
     requires { (at < 2 ^ 62) × ((words < 2 ^ 62) × ((due ≤ words) × (size < 4294967296))) }
     ensures { result ≡ entry_rule words at before due date start size }
 {
     if !calendar::real_date(date) {
-        return Verdict::BadBook { word: at };
+        return Err(Refusal::BadBook { word: at });
     }
     if date <= before {
-        return Verdict::BadBook { word: at };
+        return Err(Refusal::BadBook { word: at });
     }
     if start != due {
-        return Verdict::BadBook { word: at + 1 };
+        return Err(Refusal::BadBook { word: at + 1 });
     }
     if size < LEAST_DAY_WORDS {
-        return Verdict::BadBook { word: at + 2 };
+        return Err(Refusal::BadBook { word: at + 2 });
     }
     if words < due + size {
-        return Verdict::BadBook { word: at + 2 };
+        return Err(Refusal::BadBook { word: at + 2 });
     }
-    Verdict::Accepted
+    Ok(())
 }
 
 // The contents: n entries.
-fn contents(book: &[u8], n: usize) -> Verdict
+fn contents(book: &[u8], n: usize) -> Result<(), Refusal>
     requires { (n ≡ count_of book.now) × (8 + 12 * n ≤ length book.now) }
     ensures { result ≡ scan (entry_rule_at book.now) 0 n }
 {
     let words = book.len() / 4;
     let mut before: u32 = 0;
     let mut due = 2 + 3 * n;
-    let mut k: usize = 0;
-    while k < n {
+    for k in 0..n {
         let at = 2 + 3 * k;
         let date = words::word(book, at);
         let start = words::word(book, at + 1) as usize;
         let size = words::word(book, at + 2) as usize;
-        let v = entry(words, at, before, due, date, start, size);
-        if verdict::number(v) != 0 {
-            return v;
-        }
+        entry(words, at, before, due, date, start, size)?;
         before = date;
         due += size;
-        k += 1;
     }
-    Verdict::Accepted
+    Ok(())
 }
 
 // Word 1 of each of n files.
-fn dates(book: &[u8], n: usize) -> Verdict
+fn dates(book: &[u8], n: usize) -> Result<(), Refusal>
     requires { (n ≡ count_of book.now) × (Sound book.now) }
     ensures { result ≡ scan (date_rule_at book.now) 0 n }
 {
-    let mut k: usize = 0;
-    while k < n {
+    for k in 0..n {
         let date = words::word(book, 2 + 3 * k);
         let at = words::word(book, 2 + 3 * k + 1) as usize + 1;
         if words::word(book, at) != date {
-            return Verdict::BadBook { word: at };
+            return Err(Refusal::BadBook { word: at });
         }
-        k += 1;
     }
-    Verdict::Accepted
+    Ok(())
 }
 
 // The contents, then word 1 of each file.
-fn check_days(book: &[u8], n: usize) -> Verdict
+fn check_days(book: &[u8], n: usize) -> Result<(), Refusal>
     requires { (n ≡ count_of book.now) × ((n ≤ most_book_days) × (8 + 12 * n ≤ length book.now)) }
     ensures { result ≡ (scan (entry_rule_at book.now) 0 n or_else scan (date_rule_at book.now) 0 n) }
 {
-    let first = contents(book, n);
-    if verdict::number(first) != 0 {
-        return first;
-    }
+    contents(book, n)?;
     dates(book, n)
 }
 
 // The first word of a book that breaks its rule. The days themselves are not checked.
-pub fn check(book: &[u8]) -> Verdict
+pub fn check(book: &[u8]) -> Result<(), Refusal>
     ensures { result ≡ book_rule book.now }
 {
     let words = book.len() / 4;
     if words < 2 {
-        return Verdict::BadBook { word: 0 };
+        return Err(Refusal::BadBook { word: 0 });
     }
     if words::word(book, 0) != 1 {
-        return Verdict::BadBook { word: 0 };
+        return Err(Refusal::BadBook { word: 0 });
     }
     let n = words::word(book, 1) as usize;
     if MOST_BOOK_DAYS < n {
-        return Verdict::BadBook { word: 1 };
+        return Err(Refusal::BadBook { word: 1 });
     }
     if words < 2 + 3 * n {
-        return Verdict::BadBook { word: 1 };
+        return Err(Refusal::BadBook { word: 1 });
     }
     check_days(book, n)
 }

@@ -32,7 +32,7 @@ module _ (room : List ℕ) (date : ℕ) (accepted : number_of (withdraw_rule roo
 
   there : is_there date (days_of room) ≡ true
   unfolding withdraw_rule
-  there = (kept (is_there date (days_of room)) _ _ (λ q. omega arith) (or_second (book_rule room) _ accepted)).0
+  there = (kept (is_there date (days_of room)) _ _ (or_second (book_rule room) _ accepted)).0
 
   abbrev sound : Sound room
   sound = sound_book room book

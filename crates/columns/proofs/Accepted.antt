@@ -43,10 +43,10 @@ pub columns_accepted : (amount : ℤ) (coordinators demands : List ℕ) (room : 
     → Accepted amount demands room
 unfolding columns_rule
 columns_accepted amount coordinators demands room z =
-    let a = kept (leb (nat_abs amount) most_amount) _ _ (λ q. omega arith) z in
+    let a = kept (leb (nat_abs amount) most_amount) _ _ z in
     let b = or_second (rows_rule coordinators demands) _ a.1 in
-    let d = kept (leb (length demands) room) _ _ (λ q. omega arith) b in
-    let e = kept (eqb (nat_abs amount) 0 || ltb 0 (total demands)) _ _ (λ q. omega arith) d.1 in
+    let d = kept (leb (length demands) room) _ _ b in
+    let e = kept (eqb (nat_abs amount) 0 || ltb 0 (total demands)) _ _ d.1 in
     record {
       amount_within = leb-true _ _ a.0;
       total_within = rows_total coordinators demands (or_first _ _ a.1);

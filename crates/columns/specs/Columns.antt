@@ -1,9 +1,8 @@
 -- An amount shared over two columns, equally long: the coordinators and the demands of the sharing call's rows (docs/RULES.md, section 11). What is refused of
 -- them, and the charges afterwards.
 use Rattle.std.specs.Prelude.{ℕ, cond, ◌||◌, List, ◌∷◌, ◌++◌, ◌≡◌, eqb, leb, ltb, ℤ, nat_abs, length, get_or, take, drop}
-use Rattle.verdict.specs.declared.Verdict.{Verdict}
-use Rattle.verdict.specs.declared.Verdict.TheVariants.{Accepted, AmountWithoutDemand, RoomTooShort, AmountBeyondRange}
-use Rattle.verdict.specs.Verdict.{number_of}
+use Rattle.verdict.specs.declared.Refusal.TheVariants.{AmountWithoutDemand, RoomTooShort, AmountBeyondRange}
+use Rattle.verdict.specs.Verdict.{number_of, Accepted, Verdict}
 use Rattle.verdict.specs.First.{rule◌else◌then◌, ◌or_else◌, scan}
 use Rattle.exact.specs.Total.{total}
 use Rattle.limits.specs.Ranges.{most_amount}

@@ -5,20 +5,17 @@ ghost use Rattle.std.specs.Prelude.{◌≡◌, ◌≤◌, leb, nat_abs, length};
 ghost use Rattle.limits.specs.Ranges.{most_demand, most_amount};
 ghost use Rattle.columns.specs.Columns.{row_rule, rows_rule, charges_rule, columns_rule, SharedColumns};
 
-use verdict::Verdict;
+use verdict::Refusal;
 
-fn check_row(place: usize, before: u32, running: u32, coordinator: u32, demand: u32) -> Verdict
+fn check_row(place: usize, before: u32, running: u32, coordinator: u32, demand: u32) -> Result<(), Refusal>
     requires { running ≤ most_demand }
     ensures { result ≡ row_rule place before running coordinator demand }
 {
-    let first = body::coordinator(place, before, coordinator);
-    if verdict::number(first) != 0 {
-        return first;
-    }
+    body::coordinator(place, before, coordinator)?;
     hour::demand(place, running, demand)
 }
 
-fn check_rows(coordinators: &[u32], demands: &[u32]) -> Verdict
+fn check_rows(coordinators: &[u32], demands: &[u32]) -> Result<(), Refusal>
     requires { length coordinators.now ≡ length demands.now }
     ensures { result ≡ rows_rule coordinators.now demands.now }
 {
@@ -28,15 +25,12 @@ fn check_rows(coordinators: &[u32], demands: &[u32]) -> Verdict
     while i < demands.len() {
         let coordinator = coordinators[i];
         let demand = demands[i];
-        let v = check_row(i, before, running, coordinator, demand);
-        if verdict::number(v) != 0 {
-            return v;
-        }
+        check_row(i, before, running, coordinator, demand)?;
         before = coordinator;
         running += demand;
         i += 1;
     }
-    Verdict::Accepted
+    Ok(())
 }
 
 fn within(amount: i64) -> bool
@@ -45,30 +39,27 @@ fn within(amount: i64) -> bool
     exact::absolute(amount) <= limits::MOST_AMOUNT as u64
 }
 
-fn check_charges(amount: i64, whole: u32, count: usize, room: usize) -> Verdict
+fn check_charges(amount: i64, whole: u32, count: usize, room: usize) -> Result<(), Refusal>
     ensures { result ≡ charges_rule amount whole count room }
 {
     let can_share = shares::shareable(amount, whole);
     if room < count {
-        return Verdict::RoomTooShort { needed: count };
+        return Err(Refusal::RoomTooShort { needed: count });
     }
     if !can_share {
-        return Verdict::AmountWithoutDemand { place: 0 };
+        return Err(Refusal::AmountWithoutDemand { place: 0 });
     }
-    Verdict::Accepted
+    Ok(())
 }
 
-fn check_columns(amount: i64, coordinators: &[u32], demands: &[u32], room: usize) -> Verdict
+fn check_columns(amount: i64, coordinators: &[u32], demands: &[u32], room: usize) -> Result<(), Refusal>
     requires { length coordinators.now ≡ length demands.now }
     ensures { result ≡ columns_rule amount coordinators.now demands.now room }
 {
     if !within(amount) {
-        return Verdict::AmountBeyondRange;
+        return Err(Refusal::AmountBeyondRange);
     }
-    let rows = check_rows(coordinators, demands);
-    if verdict::number(rows) != 0 {
-        return rows;
-    }
+    check_rows(coordinators, demands)?;
     check_charges(amount, shares::sum_of_demands(demands), demands.len(), room)
 }
 
@@ -78,14 +69,11 @@ pub fn share_columns(
     coordinators: &[u32],
     demands: &[u32],
     charges: &mut [i64],
-) -> Verdict
+) -> Result<(), Refusal>
     requires { length coordinators.now ≡ length demands.now }
     ensures { SharedColumns amount coordinators.now demands.now charges.old result charges.new }
 {
-    let checked = check_columns(amount, coordinators, demands, charges.len());
-    if verdict::number(checked) != 0 {
-        return checked;
-    }
+    check_columns(amount, coordinators, demands, charges.len())?;
     shares::share_demands(amount, demands, charges);
     checked
 }

@@ -5,8 +5,8 @@ use mathlib.Core.List.{List, ◌++◌}
 use mathlib.Core.Logic.{◌⊎◌, inl, inr, ⊎_elim}
 use mathlib.Core.Path.{◌≡◌, refl, sym, ap, ap₂, ◌∙◌}
 use native.Mathlib.Omega.{arith}
+use Rattle.verdict.specs.Verdict.{Accepted}
 use Rattle.limits.specs.Ranges.{day_hours}
-use Rattle.verdict.specs.declared.Verdict.TheVariants.{Accepted}
 use Rattle.verdict.proofs.First.{scan_same}
 use Rattle.words.specs.Word.{word_at}
 use Rattle.words.proofs.Words.{words_same}

@@ -8,8 +8,7 @@ use native.Mathlib.Nat.{add-zero}
 use native.Mathlib.Omega.{arith}
 use lib.ListN.{take, drop}
 use Rattle.limits.specs.Ranges.{day_hours}
-use Rattle.verdict.specs.declared.Verdict.TheVariants.{Accepted}
-use Rattle.verdict.specs.Verdict.{number_of}
+use Rattle.verdict.specs.Verdict.{number_of, Accepted}
 use Rattle.words.specs.Word.{word_at, signed_of}
 use Rattle.words.proofs.Part.{word_part}
 use Rattle.hour.specs.Layout.{missing}

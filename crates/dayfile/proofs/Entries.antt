@@ -30,10 +30,10 @@ pub record Entry (most size n k before due number start words : ℕ) : Type 0 wh
 entry_kept : (most size n k at before due number start words : ℕ) → number_of (entry_rule most size n k at before due number start words) ≡ 0
     → Entry most size n k before due number start words
 entry_kept most size n k at before due number start words z =
-    let a = kept (ltb before number && leb number largest_number) _ _ (λ q. omega arith) z in
-    let b = kept (eqb start due) _ _ (λ q. omega arith) a.1 in
+    let a = kept (ltb before number && leb number largest_number) _ _ z in
+    let b = kept (eqb start due) _ _ a.1 in
     let end = cond (eqb (k + 1) n) (eqb (start + words) size) (leb (start + words) size) in
-    let d = kept (leb least_body_words words && leb words most && end) _ _ (λ q. omega arith) b.1 in
+    let d = kept (leb least_body_words words && leb words most && end) _ _ b.1 in
     let e = both (leb least_body_words words && leb words most) _ d.0 in
     record {
       rising = ltb-true _ _ (both (ltb before number) _ a.0).0;

@@ -14,9 +14,8 @@ use Rattle.limits.specs.Ranges.{peak_word}
 use Rattle.limits.specs.Editions.{limits_of, edition_known, KnownEdition, bytes_allowed, WithinBytes}
 use Rattle.limits.proofs.Editions.{bytes_within}
 use Rattle.calendar.specs.Date.{real_date}
-use Rattle.verdict.specs.declared.Verdict.{Verdict}
-use Rattle.verdict.specs.declared.Verdict.TheVariants.{BadLength}
-use Rattle.verdict.specs.Verdict.{number_of}
+use Rattle.verdict.specs.declared.Refusal.TheVariants.{BadLength}
+use Rattle.verdict.specs.Verdict.{number_of, Verdict}
 use Rattle.verdict.specs.First.{◌or_else◌}
 use Rattle.verdict.proofs.First.{kept, both, or_first, or_second, scan_each}
 use Rattle.exact.proofs.Lending.{part_length}
@@ -46,10 +45,10 @@ pub record Head (areas size edition day n peak : ℕ) : Type 0 where
 rule_kept : (areas size edition day n peak : ℕ) → number_of (file_head_rule areas size edition day n peak) ≡ 0 → Head areas size edition day n peak
 unfolding file_head_rule
 rule_kept areas size edition day n peak z =
-    let a = kept (edition_known edition) _ _ (λ q. omega arith) z in
-    let b = kept (real_date day) _ _ (λ q. omega arith) a.1 in
-    let d = kept (leb 1 n && leb n areas && leb (4 + 3 * n) size) _ _ (λ q. omega arith) b.1 in
-    let e = kept (eqb peak 0 || eqb peak peak_word) _ _ (λ q. omega arith) d.1 in
+    let a = kept (edition_known edition) _ _ z in
+    let b = kept (real_date day) _ _ a.1 in
+    let d = kept (leb 1 n && leb n areas && leb (4 + 3 * n) size) _ _ b.1 in
+    let e = kept (eqb peak 0 || eqb peak peak_word) _ _ d.1 in
     let f = both (leb 1 n && leb n areas) _ d.0 in
     record {
       edition_known_lem = eqb-true _ _ a.0;
@@ -82,7 +81,7 @@ module _ (limits : Limits) (file : List ℕ) (accepted : number_of (check_within
   unfolding check_within
   opened =
       let n = length file in
-      let a = kept (leb 16 n && bytes_allowed limits n && eqb (n % 4) 0) _ _ (λ q. omega arith) accepted in
+      let a = kept (leb 16 n && bytes_allowed limits n && eqb (n % 4) 0) _ _ accepted in
       let b = both (leb 16 n && bytes_allowed limits n) _ a.0 in
       let d = both (leb 16 n) _ b.0 in
       (record { least = leb-true _ _ d.0; most_bytes = bytes_within limits n d.1; whole = eqb-true _ _ b.1 }, a.1)

@@ -5,8 +5,8 @@ use Rattle.limits.specs.declared.Limits.{Limits}
 use Rattle.limits.specs.Ranges.{largest_number, least_body_words, peak_word}
 use Rattle.limits.specs.Editions.{limits_of, edition_known, bytes_allowed}
 use Rattle.calendar.specs.Date.{real_date}
-use Rattle.verdict.specs.declared.Verdict.{Verdict}
-use Rattle.verdict.specs.declared.Verdict.TheVariants.{Accepted, BadLength, BadEdition, BadAreaCount, BadDate, BadPeakHours, BadContents}
+use Rattle.verdict.specs.Verdict.{Accepted, Verdict}
+use Rattle.verdict.specs.declared.Refusal.TheVariants.{BadLength, BadEdition, BadAreaCount, BadDate, BadPeakHours, BadContents}
 use Rattle.verdict.specs.First.{rule◌else◌then◌, ◌or_else◌, scan}
 use Rattle.body.specs.Check.{body_rule}
 use Rattle.contents.specs.File.{edition_of, number_at, start_at, size_at, number_before, due_at, body_at}

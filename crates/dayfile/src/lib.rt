@@ -13,7 +13,7 @@ ghost use Rattle.dayfile.specs.Check.{file_head_rule, file_head_of, entry_rule, 
 ghost use Rattle.dayfile.specs.Lookup.{part_from, lookup_of};
 
 use limits::Limits;
-use verdict::Verdict;
+use verdict::Refusal;
 
 // What is told of a day file: the first word that breaks its rule and, where none does, which of its areas are plain.
 #[derive(Clone, Copy)]
@@ -23,35 +23,35 @@ pub struct Told {
 }
 
 // The four head words, in a file of `size` words.
-fn head_words(areas: u32, size: usize, edition: u32, day: u32, n: u32, peak: u32) -> Verdict
+fn head_words(areas: u32, size: usize, edition: u32, day: u32, n: u32, peak: u32) -> Result<(), Refusal>
     ensures { result ≡ file_head_rule areas size edition day n peak }
 {
     if edition != 1 {
-        return Verdict::BadEdition;
+        return Err(Refusal::BadEdition);
     }
     if !calendar::real_date(day) {
-        return Verdict::BadDate;
+        return Err(Refusal::BadDate);
     }
     if n < 1 {
-        return Verdict::BadAreaCount;
+        return Err(Refusal::BadAreaCount);
     }
     if areas < n {
-        return Verdict::BadAreaCount;
+        return Err(Refusal::BadAreaCount);
     }
     if size < 4 + 3 * (n as usize) {
-        return Verdict::BadAreaCount;
+        return Err(Refusal::BadAreaCount);
     }
     if peak == 0 {
-        return Verdict::Accepted;
+        return Ok(());
     }
     if peak == limits::PEAK_WORD {
-        return Verdict::Accepted;
+        return Ok(());
     }
     Verdict::BadPeakHours
 }
 
 // The head words of a file, at most `areas` areas.
-fn head(areas: u32, file: &[u8]) -> Verdict
+fn head(areas: u32, file: &[u8]) -> Result<(), Refusal>
     requires { 16 ≤ length file.now }
     ensures { result ≡ file_head_of areas file.now }
 {
@@ -74,39 +74,39 @@ fn entry(
     number: u32,
     start: usize,
     words: usize,
-) -> Verdict
+) -> Result<(), Refusal>
     requires { (k < n) × ((at < 2 ^ 62) × ((start < 4294967296) × (words < 4294967296))) }
     ensures { result ≡ entry_rule most size n k at before due number start words }
 {
     if number <= before {
-        return Verdict::BadContents { word: at };
+        return Err(Refusal::BadContents { word: at });
     }
     if limits::LARGEST_NUMBER < number {
-        return Verdict::BadContents { word: at };
+        return Err(Refusal::BadContents { word: at });
     }
     if start != due {
-        return Verdict::BadContents { word: at + 1 };
+        return Err(Refusal::BadContents { word: at + 1 });
     }
     if words < limits::LEAST_BODY_WORDS {
-        return Verdict::BadContents { word: at + 2 };
+        return Err(Refusal::BadContents { word: at + 2 });
     }
     if most < words {
-        return Verdict::BadContents { word: at + 2 };
+        return Err(Refusal::BadContents { word: at + 2 });
     }
     if k + 1 == n {
         if start + words == size {
-            return Verdict::Accepted;
+            return Ok(());
         }
-        return Verdict::BadContents { word: at + 2 };
+        return Err(Refusal::BadContents { word: at + 2 });
     }
     if size < start + words {
-        return Verdict::BadContents { word: at + 2 };
+        return Err(Refusal::BadContents { word: at + 2 });
     }
-    Verdict::Accepted
+    Ok(())
 }
 
 // The contents: n entries of bodies of at most `most` words.
-fn contents(most: usize, file: &[u8], n: usize) -> Verdict
+fn contents(most: usize, file: &[u8], n: usize) -> Result<(), Refusal>
     requires { 16 + 12 * n ≤ length file.now }
     ensures { result ≡ contents_rule most file.now n }
 {
@@ -119,15 +119,12 @@ fn contents(most: usize, file: &[u8], n: usize) -> Verdict
         let number = words::word(file, at);
         let start = words::word(file, at + 1) as usize;
         let words = words::word(file, at + 2) as usize;
-        let v = entry(most, size, n, k, at, before, due, number, start, words);
-        if verdict::number(v) != 0 {
-            return v;
-        }
+        entry(most, size, n, k, at, before, due, number, start, words)?;
         before = number;
         due = start + words;
         k += 1;
     }
-    Verdict::Accepted
+    Ok(())
 }
 
 // A file of which a word breaks its rule.
@@ -204,7 +201,7 @@ pub fn checked(file: &[u8]) -> Told
 }
 
 // The first word of a day file that breaks its rule.
-pub fn check(file: &[u8]) -> Verdict
+pub fn check(file: &[u8]) -> Result<(), Refusal>
     ensures { result ≡ check_of file.now }
 {
     let told = checked(file);

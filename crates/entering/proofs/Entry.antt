@@ -8,9 +8,8 @@ use lib.Dec.{leb, ltb}
 use lib.ListN.{length}
 use borrow.Author.Tests.{le-leb, lt-leb, leb-true, eq-eqb, ne_eqb, ltb-true, ltb-false}
 use Rattle.limits.specs.Editions.{most_held}
-use Rattle.verdict.specs.declared.Verdict.{Verdict}
-use Rattle.verdict.specs.declared.Verdict.TheVariants.{Accepted, TooManyAreas}
-use Rattle.verdict.specs.Verdict.{number_of}
+use Rattle.verdict.specs.declared.Refusal.TheVariants.{TooManyAreas}
+use Rattle.verdict.specs.Verdict.{number_of, Accepted, Verdict}
 use Rattle.verdict.proofs.First.{or_first, or_second, or_next}
 use Rattle.verdict.proofs.First.{kept as rule_kept}
 use Rattle.contents.specs.File.{day_of}
@@ -66,7 +65,7 @@ module _ (r : Record) (file : List ℕ) where
       record {
         checked = or_first (check_of file) _ z;
         judged = or_first (record_rule r (day_of file)) _ rest;
-        few = leb-true _ _ (rule_kept (leb (length (held_then r file)) most_held) _ Accepted (λ q. omega arith)
+        few = leb-true _ _ (rule_kept (leb (length (held_then r file)) most_held) _ Accepted
             (or_second (record_rule r (day_of file)) _ rest)).0;
       }
 

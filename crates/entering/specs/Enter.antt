@@ -1,9 +1,8 @@
 -- A day file entered into the record (docs/RULES.md, section 12): the answer, and the record afterwards.
 use Rattle.std.specs.Prelude.{ℕ, List, eqb, leb, length}
 use Rattle.limits.specs.Editions.{most_held}
-use Rattle.verdict.specs.declared.Verdict.{Verdict}
-use Rattle.verdict.specs.declared.Verdict.TheVariants.{Accepted, TooManyAreas}
-use Rattle.verdict.specs.Verdict.{number_of}
+use Rattle.verdict.specs.declared.Refusal.TheVariants.{TooManyAreas}
+use Rattle.verdict.specs.Verdict.{number_of, Accepted, Verdict}
 use Rattle.verdict.specs.First.{rule◌else◌then◌, ◌or_else◌}
 use Rattle.contents.specs.File.{day_of}
 use Rattle.dayfile.specs.Check.{check_of}

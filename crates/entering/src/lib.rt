@@ -12,7 +12,7 @@ ghost use Rattle.settlement.specs.SoundFile.{SoundFile};
 ghost use Rattle.entering.specs.Enter.{answer_with, room_rule, answered_by, entered};
 
 use recording::{Marking, Record};
-use verdict::Verdict;
+use verdict::Refusal;
 
 // The answer of an entry, and the record afterwards: a refusal leaves it as it was.
 #[derive(Clone, Copy)]

@@ -7,9 +7,8 @@ use Rattle.words.specs.Word.{word_at, signed_of}
 use Rattle.words.specs.Bytes.{words_from}
 use Rattle.words.proofs.Totals.{total_more}
 use Rattle.limits.specs.Ranges.{most_market_price, most_quantity, most_demand}
-use Rattle.verdict.specs.declared.Verdict.{Verdict}
-use Rattle.verdict.specs.declared.Verdict.TheVariants.{Accepted, OutOfRange}
-use Rattle.verdict.specs.Verdict.{number_of}
+use Rattle.verdict.specs.declared.Refusal.TheVariants.{OutOfRange}
+use Rattle.verdict.specs.Verdict.{number_of, Accepted, Verdict}
 use Rattle.verdict.specs.First.{rule◌else◌then◌, ◌or_else◌, scan}
 use Rattle.verdict.proofs.First.{or_accepts, or_assoc, scan_accepts}
 use Rattle.hour.specs.Layout.{missing}

@@ -11,8 +11,8 @@ use Rattle.hour.specs.Check.{pair_rule, demand_rule}
 pub pair_kept : (place next quantity price : ℕ) → number_of (pair_rule place next quantity price) ≡ 0
     → QuantityKept quantity × PriceKept price
 pair_kept place next quantity price z =
-    let p = kept (leb quantity most_quantity) _ _ (λ q. omega arith) z in
-    let r = kept (missing price || leb (nat_abs (signed_of price)) most_market_price) _ _ (λ q. omega arith) p.1 in
+    let p = kept (leb quantity most_quantity) _ _ z in
+    let r = kept (missing price || leb (nat_abs (signed_of price)) most_market_price) _ _ p.1 in
     (leb-true _ _ p.0, λ there. leb-true _ _ (simp there at r.0))
 
 -- both tests hold, whichever is made first

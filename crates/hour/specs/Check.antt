@@ -4,8 +4,8 @@ use Rattle.exact.specs.Total.{total}
 use Rattle.words.specs.Word.{word_at, signed_of}
 use Rattle.words.specs.Bytes.{words_from}
 use Rattle.limits.specs.Ranges.{most_deficiency, most_requirement, most_market_price, most_quantity, most_demand}
-use Rattle.verdict.specs.declared.Verdict.{Verdict}
-use Rattle.verdict.specs.declared.Verdict.TheVariants.{Accepted, OutOfRange, RunningDemandTooLarge}
+use Rattle.verdict.specs.Verdict.{Accepted, Verdict}
+use Rattle.verdict.specs.declared.Refusal.TheVariants.{OutOfRange, RunningDemandTooLarge}
 use Rattle.verdict.specs.First.{rule◌else◌then◌, ◌or_else◌, scan}
 use Rattle.hour.specs.Layout.{missing}
 

@@ -1,7 +1,6 @@
 -- What is gathered of an hour without a branch.
 use Rattle.std.specs.Prelude.{◌≡◌, ℕ, List, ◌==◌, nat_eq}
-use Rattle.verdict.specs.declared.Verdict.{Verdict}
-use Rattle.verdict.specs.Verdict.{number_of}
+use Rattle.verdict.specs.Verdict.{number_of, Verdict}
 use Rattle.hour.specs.Check.{intervals_rule}
 use Rattle.hour.specs.Plain.{present_from, quantity_from}
 

@@ -13,7 +13,7 @@ ghost use Rattle.hour.specs.Gathered.{Gathered, GatheredFrom};
 ghost use Rattle.hour.specs.Plain.{plain_hour};
 ghost use Rattle.hour.specs.Check.{range_rule, pair_rule, demand_rule, deficiencies_rule, intervals_rule, demands_rule, numbers_rule, hour_rule};
 
-use verdict::Verdict;
+use verdict::Refusal;
 
 // What is told of an hour: the first word that breaks its rule, and whether the hour is plain.
 #[derive(Clone, Copy)]
@@ -22,52 +22,49 @@ pub struct Told {
     pub plain: bool,
 }
 
-fn range(place: usize, most: u32, number: u32) -> Verdict
+fn range(place: usize, most: u32, number: u32) -> Result<(), Refusal>
     ensures { result ≡ range_rule place most number }
 {
     if most < number {
-        return Verdict::OutOfRange { place };
+        return Err(Refusal::OutOfRange { place });
     }
-    Verdict::Accepted
+    Ok(())
 }
 
-fn deficiencies(start: usize, body: &[u8], at: usize) -> Verdict
+fn deficiencies(start: usize, body: &[u8], at: usize) -> Result<(), Refusal>
     requires { (start < 4294967296) × (4 * (at + 6) ≤ length body.now) }
     ensures { result ≡ deficiencies_rule start body.now at }
 {
     let mut i: usize = 0;
     while i < 6 {
-        let v = range(
+        range(
             start + (at + i),
             limits::MOST_DEFICIENCY,
             words::word(body, at + i),
-        );
-        if verdict::number(v) != 0 {
-            return v;
-        }
+        )?;
         i += 1;
     }
-    Verdict::Accepted
+    Ok(())
 }
 
 // An interval's quantity, with its place, and price, with the next place.
-fn pair(place: usize, next: usize, quantity: u32, price: u32) -> Verdict
+fn pair(place: usize, next: usize, quantity: u32, price: u32) -> Result<(), Refusal>
     ensures { result ≡ pair_rule place next quantity price }
 {
     if limits::MOST_QUANTITY < quantity {
-        return Verdict::OutOfRange { place };
+        return Err(Refusal::OutOfRange { place });
     }
     if price == limits::MISSING_PRICE {
-        return Verdict::Accepted;
+        return Ok(());
     }
     if limits::MOST_MARKET_PRICE < words::magnitude(price) {
-        return Verdict::OutOfRange { place: next };
+        return Err(Refusal::OutOfRange { place: next });
     }
-    Verdict::Accepted
+    Ok(())
 }
 
 // `count` intervals from word `from` on.
-pub fn intervals(start: usize, body: &[u8], from: usize, count: usize) -> Verdict
+pub fn intervals(start: usize, body: &[u8], from: usize, count: usize) -> Result<(), Refusal>
     requires { (start < 4294967296) × (4 * (from + 2 * count) ≤ length body.now) }
     ensures { result ≡ intervals_rule start body.now from count }
 {
@@ -76,29 +73,26 @@ pub fn intervals(start: usize, body: &[u8], from: usize, count: usize) -> Verdic
         let at = from + 2 * i;
         let quantity = words::word(body, at);
         let price = words::word(body, at + 1);
-        let v = pair(start + at, start + (at + 1), quantity, price);
-        if verdict::number(v) != 0 {
-            return v;
-        }
+        pair(start + at, start + (at + 1), quantity, price)?;
         i += 1;
     }
-    Verdict::Accepted
+    Ok(())
 }
 
-pub fn demand(place: usize, before: u32, demand: u32) -> Verdict
+pub fn demand(place: usize, before: u32, demand: u32) -> Result<(), Refusal>
     requires { before ≤ most_demand }
     ensures { result ≡ demand_rule place before demand }
 {
     if limits::MOST_DEMAND < demand {
-        return Verdict::OutOfRange { place };
+        return Err(Refusal::OutOfRange { place });
     }
     if limits::MOST_DEMAND < before + demand {
-        return Verdict::RunningDemandTooLarge { place };
+        return Err(Refusal::RunningDemandTooLarge { place });
     }
-    Verdict::Accepted
+    Ok(())
 }
 
-fn demands(start: usize, body: &[u8], from: usize, count: usize) -> Verdict
+fn demands(start: usize, body: &[u8], from: usize, count: usize) -> Result<(), Refusal>
     requires { (start < 4294967296) × (4 * (from + count) ≤ length body.now) }
     ensures { result ≡ demands_rule start body.now from count }
 {
@@ -106,33 +100,24 @@ fn demands(start: usize, body: &[u8], from: usize, count: usize) -> Verdict
     let mut i: usize = 0;
     while i < count {
         let next = words::word(body, from + i);
-        let v = demand(start + (from + i), running, next);
-        if verdict::number(v) != 0 {
-            return v;
-        }
+        demand(start + (from + i), running, next)?;
         running += next;
         i += 1;
     }
-    Verdict::Accepted
+    Ok(())
 }
 
 // The first eight numbers of the hour that starts at word `at`.
-fn numbers(start: usize, body: &[u8], at: usize) -> Verdict
+fn numbers(start: usize, body: &[u8], at: usize) -> Result<(), Refusal>
     requires { (start < 4294967296) × (4 * (at + 8) ≤ length body.now) }
     ensures { result ≡ numbers_rule start body.now at }
 {
-    let first = deficiencies(start, body, at);
-    if verdict::number(first) != 0 {
-        return first;
-    }
-    let second = range(
+    deficiencies(start, body, at)?;
+    range(
         start + (at + 6),
         limits::MOST_REQUIREMENT,
         words::word(body, at + 6),
-    );
-    if verdict::number(second) != 0 {
-        return second;
-    }
+    )?;
     let mec = words::magnitude(words::word(body, at + 7));
     range(start + (at + 7), limits::MOST_MARKET_PRICE, mec)
 }
@@ -263,18 +248,12 @@ fn plain(kind: u32, load: usize, intervals: Gathering, demand: u64) -> bool
 }
 
 // The first word that breaks its rule, word by word.
-fn first_broken(start: usize, body: &[u8], load: usize, count: usize, at: usize) -> Verdict
+fn first_broken(start: usize, body: &[u8], load: usize, count: usize, at: usize) -> Result<(), Refusal>
     requires { (start < 4294967296) × ((count < 4294967296) × (4 * (at + hour_words load count) ≤ length body.now)) }
     ensures { result ≡ hour_rule start body.now load count at }
 {
-    let first = numbers(start, body, at);
-    if verdict::number(first) != 0 {
-        return first;
-    }
-    let second = intervals(start, body, at + 8, 12 * load);
-    if verdict::number(second) != 0 {
-        return second;
-    }
+    numbers(start, body, at)?;
+    intervals(start, body, at + 8, 12 * load)?;
     demands(start, body, at + 8 + 24 * load, count)
 }
 

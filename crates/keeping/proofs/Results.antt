@@ -4,8 +4,8 @@ use mathlib.Core.Path.{◌≡◌, sym, ap, ◌∙◌}
 use mathlib.Core.List.{List}
 use native.Mathlib.Omega.{arith}
 use borrow.Author.Tests.{eq-eqb, ne_eqb}
-use Rattle.verdict.specs.Verdict.{number_of}
-use Rattle.verdict.specs.declared.Verdict.TheVariants.{Accepted, DateThereOrAbsent}
+use Rattle.verdict.specs.Verdict.{number_of, Accepted}
+use Rattle.verdict.specs.declared.Refusal.TheVariants.{DateThereOrAbsent}
 use Rattle.verdict.proofs.First.{or_next, or_stop}
 use Rattle.contents.specs.File.{day_of}
 use Rattle.book.specs.Days.{book_of}

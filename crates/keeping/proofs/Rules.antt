@@ -9,8 +9,8 @@ use native.Mathlib.Omega.{arith}
 use borrow.Author.Tests.{lt-ltb, le-ltb, le-leb, lt-leb, leb-true, ltb-true, not-true}
 use lib.Dec.{eqb, leb, ltb}
 use lib.ListN.{length}
-use Rattle.verdict.specs.declared.Verdict.TheVariants.{Accepted, DaysDoNotFit, DateThereOrAbsent}
-use Rattle.verdict.specs.Verdict.{number_of}
+use Rattle.verdict.specs.declared.Refusal.TheVariants.{DaysDoNotFit, DateThereOrAbsent}
+use Rattle.verdict.specs.Verdict.{number_of, Accepted}
 use Rattle.verdict.specs.First.{◌or_else◌}
 use Rattle.verdict.proofs.First.{kept, both, or_next, or_first, or_second}
 use Rattle.contents.specs.File.{day_of}
@@ -96,8 +96,8 @@ module _ (room : List ℕ) (date : ℕ) where
     unfolding day_rule
     day_kept z =
         let new = end_of room + 3 + size in
-        let a = kept (not (is_there date (days_of room))) _ _ (λ q. omega arith) z in
-        let b = kept (ltb (count_of room) most_book_days && leb new (room_words room) && leb new most_book_words) _ _ (λ q. omega arith) a.1 in
+        let a = kept (not (is_there date (days_of room))) _ _ z in
+        let b = kept (ltb (count_of room) most_book_days && leb new (room_words room) && leb new most_book_words) _ _ a.1 in
         let d = both (ltb (count_of room) most_book_days && leb new (room_words room)) _ b.0 in
         let e = both (ltb (count_of room) most_book_days) _ d.0 in
         record { absent = not-true _ a.0; few = ltb-true _ _ e.0; fits = leb-true _ _ e.1; named = leb-true _ _ d.1 }

@@ -1,8 +1,7 @@
 -- "A day can be added to and withdrawn from a book in lent room; freed words become 0" (docs/RULES.md, section 13).
 use Rattle.std.specs.Prelude.{ℕ, ◌+◌, ◌/◌, Bool, false, cond, not, ◌&&◌, ◌||◌, List, [], ◌∷◌, eqb, leb, ltb, length}
-use Rattle.verdict.specs.declared.Verdict.{Verdict}
-use Rattle.verdict.specs.declared.Verdict.TheVariants.{Accepted, DaysDoNotFit, DateThereOrAbsent}
-use Rattle.verdict.specs.Verdict.{number_of}
+use Rattle.verdict.specs.declared.Refusal.TheVariants.{DaysDoNotFit, DateThereOrAbsent}
+use Rattle.verdict.specs.Verdict.{number_of, Accepted, Verdict}
 use Rattle.verdict.specs.First.{rule◌else◌then◌, ◌or_else◌}
 use Rattle.contents.specs.File.{day_of}
 use Rattle.dayfile.specs.Check.{check_of}

@@ -5,58 +5,49 @@ ghost use Rattle.std.specs.Prelude.{◌≡◌, ◌<◌, ◌^◌};
 ghost use Rattle.book.specs.Sound.{Sound};
 ghost use Rattle.keeping.specs.Keeping.{day_rule, add_rule, with_day, withdraw_rule, without_day};
 
-use verdict::Verdict;
+use verdict::Refusal;
 
 // A first word is a word: no entry can say that a file begins behind so many words.
 const MOST_BOOK_WORDS: usize = 4294967296;
 
 // The date and the room, for a day whose file has `size` words.
-fn judge(book: &[u8], date: u32, size: usize) -> Verdict
+fn judge(book: &[u8], date: u32, size: usize) -> Result<(), Refusal>
     requires { (Sound book.now) × (size < 2 ^ 62) }
     ensures { result ≡ day_rule book.now date size }
 {
     let n = words::word(book, 1) as usize;
     let k = keeping_places::find(book, n, date);
     if k < n {
-        return Verdict::DateThereOrAbsent;
+        return Err(Refusal::DateThereOrAbsent);
     }
     if n == book::MOST_BOOK_DAYS {
-        return Verdict::DaysDoNotFit;
+        return Err(Refusal::DaysDoNotFit);
     }
     let end = book::due(book, n) + 3 + size;
     if book.len() / 4 < end {
-        return Verdict::DaysDoNotFit;
+        return Err(Refusal::DaysDoNotFit);
     }
     if MOST_BOOK_WORDS < end {
-        return Verdict::DaysDoNotFit;
+        return Err(Refusal::DaysDoNotFit);
     }
-    Verdict::Accepted
+    Ok(())
 }
 
 // 20, then the check of the new file, then 22 and 21.
-fn admit(book: &[u8], file: &[u8]) -> Verdict
+fn admit(book: &[u8], file: &[u8]) -> Result<(), Refusal>
     ensures { result ≡ add_rule book.now file.now }
 {
-    let first = book::check(book);
-    if verdict::number(first) != 0 {
-        return first;
-    }
-    let second = dayfile::check(file);
-    if verdict::number(second) != 0 {
-        return second;
-    }
+    book::check(book)?;
+    dayfile::check(file)?;
     judge(book, words::word(file, 1), file.len() / 4)
 }
 
 // Checks the book and the new file, then puts the file to its place by date. A refusal leaves the book as it was.
-pub fn add_day(book: &mut [u8], file: &[u8]) -> Verdict
+pub fn add_day(book: &mut [u8], file: &[u8]) -> Result<(), Refusal>
     ensures value { result ≡ add_rule book.old file.now }
     ensures book_after { book.new ≡ with_day book.old file.now }
 {
-    let v = admit(book, file);
-    if verdict::number(v) != 0 {
-        return v;
-    }
+    admit(book, file)?;
     let date = words::word(file, 1);
     let n = words::word(book, 1) as usize;
     let k = keeping_places::place(book, n, date);
@@ -65,18 +56,15 @@ pub fn add_day(book: &mut [u8], file: &[u8]) -> Verdict
 }
 
 // Checks the book, then takes out the day of that date. What is freed becomes 0, and a refusal leaves the book as it was.
-pub fn withdraw_day(book: &mut [u8], date: u32) -> Verdict
+pub fn withdraw_day(book: &mut [u8], date: u32) -> Result<(), Refusal>
     ensures value { result ≡ withdraw_rule book.old date }
     ensures book_after { book.new ≡ without_day book.old date }
 {
-    let v = book::check(book);
-    if verdict::number(v) != 0 {
-        return v;
-    }
+    book::check(book)?;
     let n = words::word(book, 1) as usize;
     let k = keeping_places::find(book, n, date);
     if k == n {
-        return Verdict::DateThereOrAbsent;
+        return Err(Refusal::DateThereOrAbsent);
     }
     keeping_moves::withdraw_at(book, k);
     v

@@ -7,7 +7,7 @@ ghost use Rattle.book.specs.Read.{count_of, days_of};
 ghost use Rattle.book.specs.Sound.{Sound};
 ghost use Rattle.month_rules.specs.Month.{numbers_taken, settled_day, places_of, settled_days, month_rule, statement_after, table_after};
 
-use verdict::Verdict;
+use verdict::Refusal;
 
 // The answer of a day, and how many of the numbers that were left it takes: all of them where they are too few.
 #[derive(Clone, Copy)]
@@ -65,30 +65,24 @@ fn settle_days(book: &[u8], n: usize, statement: &mut [i64], table: &mut [u64])
 }
 
 // The check of the book, then whether the table has a place for each day.
-fn admit(book: &[u8], places: usize) -> Verdict
+fn admit(book: &[u8], places: usize) -> Result<(), Refusal>
     ensures { result ≡ month_rule book.now places }
 {
-    let v = book::check(book);
-    if verdict::number(v) != 0 {
-        return v;
-    }
+    book::check(book)?;
     if places < words::word(book, 1) as usize {
-        return Verdict::DaysDoNotFit;
+        return Err(Refusal::DaysDoNotFit);
     }
     v
 }
 
 // Checks the book, then settles its days one by one into `statement`, each behind the numbers of the days before it, and puts what each answers to its place of
 // `table`. A refusal leaves both as they were.
-pub fn settle_month(book: &[u8], statement: &mut [i64], table: &mut [u64]) -> Verdict
+pub fn settle_month(book: &[u8], statement: &mut [i64], table: &mut [u64]) -> Result<(), Refusal>
     ensures value { result ≡ month_rule book.now (length table.old) }
     ensures statement_after { statement.new ≡ statement_after book.now result statement.old }
     ensures table_after { table.new ≡ table_after book.now result (length statement.old) table.old }
 {
-    let v = admit(book, table.len());
-    if verdict::number(v) != 0 {
-        return v;
-    }
+    admit(book, table.len())?;
     let n = words::word(book, 1) as usize;
     settle_days(book, n, statement, table);
     v

@@ -7,9 +7,8 @@ use borrow.Author.Tests.{leb-true, eq-eqb, ne_eqb}
 use lib.Dec.{leb}
 use lib.IntN.{ℤ}
 use lib.ListN.{drop}
-use Rattle.verdict.specs.declared.Verdict.{Verdict}
-use Rattle.verdict.specs.declared.Verdict.TheVariants.{Accepted, DaysDoNotFit}
-use Rattle.verdict.specs.Verdict.{number_of}
+use Rattle.verdict.specs.declared.Refusal.TheVariants.{DaysDoNotFit}
+use Rattle.verdict.specs.Verdict.{number_of, Accepted, Verdict}
 use Rattle.verdict.specs.First.{rule◌else◌then◌, ◌or_else◌}
 use Rattle.verdict.proofs.First.{kept, or_first, or_second}
 use Rattle.book.specs.Read.{count_of, days_of}
@@ -28,7 +27,7 @@ module _ (room : List ℕ) (places : ℕ) where
 
     pub places_enough : count_of room ≤ places
     unfolding month_rule
-    places_enough = leb-true _ _ (kept (leb (count_of room) places) DaysDoNotFit Accepted (λ q. omega arith) (or_second (book_rule room) _ accepted)).0
+    places_enough = leb-true _ _ (kept (leb (count_of room) places) DaysDoNotFit Accepted (or_second (book_rule room) _ accepted)).0
 
 -- ---- the statement and the table after a refusal, and after none
 

@@ -1,8 +1,7 @@
 -- "One call settles them all into one statement, with the number and place of each day in a lent table" (docs/RULES.md, section 13).
 use Rattle.std.specs.Prelude.{ℕ, ◌-◌, cond, List, [], ◌∷◌, ◌++◌, eqb, leb, ℤ, length, take, drop}
-use Rattle.verdict.specs.declared.Verdict.{Verdict}
-use Rattle.verdict.specs.declared.Verdict.TheVariants.{Accepted, DaysDoNotFit}
-use Rattle.verdict.specs.Verdict.{number_of, coded}
+use Rattle.verdict.specs.declared.Refusal.TheVariants.{DaysDoNotFit}
+use Rattle.verdict.specs.Verdict.{number_of, coded, Accepted, Verdict}
 use Rattle.verdict.specs.First.{rule◌else◌then◌, ◌or_else◌}
 use Rattle.dayfile.specs.Check.{check_of}
 use Rattle.settlement.specs.Settlement.{numbers_needed, settle_of, after}

@@ -6,9 +6,8 @@ use mathlib.Core.Path.{◌≡◌, sym, ◌∙◌}
 use native.Mathlib.Decide.{ℕ_discrete}
 use native.Mathlib.Omega.{arith}
 use borrow.Author.Tests.{le-leb, lt-leb}
-use Rattle.verdict.specs.declared.Verdict.{Verdict}
-use Rattle.verdict.specs.declared.Verdict.TheVariants.{RoomTooShort}
-use Rattle.verdict.specs.Verdict.{number_of, coded}
+use Rattle.verdict.specs.declared.Refusal.TheVariants.{RoomTooShort}
+use Rattle.verdict.specs.Verdict.{number_of, coded, Verdict}
 use Rattle.verdict.proofs.Accepted.{accepted_place}
 use Rattle.verdict.proofs.First.{or_next, or_stop}
 use Rattle.contents.specs.File.{areas_of}

@@ -1,6 +1,6 @@
 -- "The result is that of settling them one by one": what the settlement of a book leaves, `left` of the statement and `told` of the table.
 use Rattle.std.specs.Prelude.{ℕ, ◌+◌, ◌-◌, ◌≤◌, ◌<◌, List, ◌≡◌, ℤ, length, get_or, take, drop}
-use Rattle.verdict.specs.declared.Verdict.TheVariants.{RoomTooShort}
+use Rattle.verdict.specs.declared.Refusal.TheVariants.{RoomTooShort}
 use Rattle.verdict.specs.Verdict.{number_of, coded}
 use Rattle.dayfile.specs.Check.{check_of}
 use Rattle.settlement.specs.Settlement.{numbers_needed, settle_of}

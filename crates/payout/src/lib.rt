@@ -9,7 +9,7 @@ ghost use Rattle.settlement.specs.SoundFile.{SoundFile};
 ghost use Rattle.payout_rules.specs.PayOut.{areas_to, basis_at, basis_rule, collected_from, basis_of, pay_out_rule, payments_after};
 
 use surcharge::Terms;
-use verdict::Verdict;
+use verdict::Refusal;
 
 // What the basis of hour h adds up to, over n areas.
 fn hour_basis(basis: &[u32], n: usize, h: usize) -> u64
@@ -26,39 +26,33 @@ fn hour_basis(basis: &[u32], n: usize, h: usize) -> u64
 }
 
 // Whether the basis of n areas keeps its rule. What adds up to at most 10,000,000 has no larger number in it.
-fn check_basis(basis: &[u32], n: usize) -> Verdict
+fn check_basis(basis: &[u32], n: usize) -> Result<(), Refusal>
     requires { n ≤ proved_areas }
     ensures { result ≡ basis_rule basis.now n }
 {
     if basis.len() != limits::DAY_HOURS * n {
-        return Verdict::BadBasis;
+        return Err(Refusal::BadBasis);
     }
     let mut h: usize = 0;
     while h < limits::DAY_HOURS {
         if (limits::MOST_BASIS as u64) < hour_basis(basis, n, h) {
-            return Verdict::BadBasis;
+            return Err(Refusal::BadBasis);
         }
         h += 1;
     }
-    Verdict::Accepted
+    Ok(())
 }
 
 // All that is refused: what settling refuses, where a statement of any length fits, then 23 and 24.
-fn judge(file: &[u8], basis: &[u32], room: usize) -> Verdict
+fn judge(file: &[u8], basis: &[u32], room: usize) -> Result<(), Refusal>
     ensures { result ≡ pay_out_rule file.now basis.now room }
 {
-    let first = settlement::answer(file, settlement::MOST_NUMBERS);
-    if verdict::number(first) != 0 {
-        return first;
-    }
+    settlement::answer(file, settlement::MOST_NUMBERS)?;
     let n = words::word(file, 2) as usize;
-    let second = check_basis(basis, n);
-    if verdict::number(second) != 0 {
-        return second;
-    }
+    check_basis(basis, n)?;
     let needed = limits::DAY_PAYMENTS * (n + 1);
     if room < needed {
-        return Verdict::PaymentRoomTooShort { needed };
+        return Err(Refusal::PaymentRoomTooShort { needed });
     }
     second
 }
@@ -103,14 +97,11 @@ fn count_bases(file: &[u8], basis: &[u32], n: usize, counted: &mut [u32])
 // Checks the file and the basis, then pays what is collected in each hour and direction to the areas that pass, in `payments`: area after area, for each hour
 // upward and downward; then the rests. A refusal leaves the payments as they were.
 // Where nothing was collected every payment and rest is 0, and no basis is counted.
-pub fn pay_out(file: &[u8], basis: &[u32], payments: &mut [i64]) -> Verdict
+pub fn pay_out(file: &[u8], basis: &[u32], payments: &mut [i64]) -> Result<(), Refusal>
     ensures value { result ≡ pay_out_rule file.now basis.now (length payments.old) }
     ensures payments_after { payments.new ≡ payments_after file.now basis.now result payments.old }
 {
-    let v = judge(file, basis, payments.len());
-    if verdict::number(v) != 0 {
-        return v;
-    }
+    judge(file, basis, payments.len())?;
     let n = words::word(file, 2) as usize;
     collect_areas(file, n, payments);
     if paying::nothing_collected(payments, n) {

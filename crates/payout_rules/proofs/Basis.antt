@@ -9,8 +9,8 @@ use lib.Dec.{leb, eqb}
 use lib.ListN.{length}
 use Rattle.exact.specs.Total.{total}
 use Rattle.limits.specs.Ranges.{day_hours, most_basis}
-use Rattle.verdict.specs.declared.Verdict.TheVariants.{Accepted, BadBasis}
-use Rattle.verdict.specs.Verdict.{number_of}
+use Rattle.verdict.specs.declared.Refusal.TheVariants.{BadBasis}
+use Rattle.verdict.specs.Verdict.{number_of, Accepted}
 use Rattle.verdict.specs.First.{rule◌else◌then◌, scan}
 use Rattle.verdict.proofs.First.{kept, scan_each}
 use Rattle.contents.specs.File.{body_at}
@@ -41,7 +41,7 @@ module _ (basis : List ℕ) (n h : ℕ) where
 module _ (basis : List ℕ) (n : ℕ) (accepted : number_of (basis_rule basis n) ≡ 0) where
   both : (eqb (length basis) (day_hours * n) ≡ true) × (number_of (scan (hour_basis_rule basis n) 0 day_hours) ≡ 0)
   unfolding basis_rule
-  both = kept (eqb (length basis) (day_hours * n)) BadBasis _ (λ q. omega arith) accepted
+  both = kept (eqb (length basis) (day_hours * n)) BadBasis _ accepted
 
   pub basis_long : length basis ≡ day_hours * n
   basis_long = eqb-true _ _ both.0
@@ -50,8 +50,8 @@ module _ (basis : List ℕ) (n : ℕ) (accepted : number_of (basis_rule basis n)
   unfolding hour_basis_rule
   basis_small h below =
       let hour = scan_each (hour_basis_rule basis n) day_hours both.1 h below in
-      let sum = (kept (all_within most_basis (basis_at basis n h)) BadBasis _ (λ q. omega arith) hour).1 in
-      leb-true _ _ (kept (leb (total (basis_at basis n h)) most_basis) BadBasis Accepted (λ q. omega arith) sum).0
+      let sum = (kept (all_within most_basis (basis_at basis n h)) BadBasis _ hour).1 in
+      leb-true _ _ (kept (leb (total (basis_at basis n h)) most_basis) BadBasis Accepted sum).0
 
 -- ---- a basis that counts only where an area passes is no larger
 

@@ -7,9 +7,8 @@ use borrow.Author.Tests.{leb-true, le-leb, eq-eqb, ne_eqb}
 use lib.Dec.{leb}
 use lib.IntN.{ℤ}
 use lib.ListN.{drop}
-use Rattle.verdict.specs.declared.Verdict.{Verdict}
-use Rattle.verdict.specs.declared.Verdict.TheVariants.{Accepted, PaymentRoomTooShort}
-use Rattle.verdict.specs.Verdict.{number_of}
+use Rattle.verdict.specs.declared.Refusal.TheVariants.{PaymentRoomTooShort}
+use Rattle.verdict.specs.Verdict.{number_of, Accepted, Verdict}
 use Rattle.verdict.specs.First.{rule◌else◌then◌, ◌or_else◌}
 use Rattle.verdict.proofs.First.{kept, or_first, or_second, or_same}
 use Rattle.limits.specs.Editions.{most_areas}
@@ -64,7 +63,7 @@ module _ (file basis : List ℕ) (room : ℕ) where
     pub room_enough : payments_needed file ≤ room
     room_enough =
         leb-true _ _
-        (kept (leb (payments_needed file) room) (PaymentRoomTooShort (payments_needed file)) Accepted (λ q. omega arith)
+        (kept (leb (payments_needed file) room) (PaymentRoomTooShort (payments_needed file)) Accepted
         (or_second (basis_rule basis (areas_of file)) _ behind-accepted)).0
 
 -- ---- the payments after a refusal, and after none

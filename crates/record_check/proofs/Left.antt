@@ -12,8 +12,7 @@ use borrow.Author.Tests.{eq-eqb, ne_eqb, eqb-true, leb-true, ltb-true}
 use Rattle.exact.proofs.Filling.{drop_next}
 use Rattle.limits.specs.Ranges.{recorded_days, largest_number, most_days}
 use Rattle.limits.specs.Editions.{most_held}
-use Rattle.verdict.specs.Verdict.{number_of}
-use Rattle.verdict.specs.declared.Verdict.TheVariants.{Accepted}
+use Rattle.verdict.specs.Verdict.{number_of, Accepted}
 use Rattle.verdict.proofs.First.{both, kept, or_first, or_second}
 use Rattle.calendar.specs.Date.{real_date}
 use Rattle.calendar.specs.DayNumber.{day_number}
@@ -114,8 +113,8 @@ pub record Before (r : Record) (date : ℕ) : Type 0 where
 pub record_before : (r : Record) (date : ℕ) → number_of (record_rule r date) ≡ 0 → Before r date
 unfolding record_rule
 record_before r date z =
-    let a = kept (record_left r) _ _ (λ q. omega arith) z in
-    let b = kept (ltb r.last date) _ Accepted (λ q. omega arith) a.1 in
+    let a = kept (record_left r) _ _ z in
+    let b = kept (ltb r.last date) _ Accepted a.1 in
     record { left = record_kept r a.0; after = ltb-true r.last date b.0 }
 
 -- a file and a record that are admitted

@@ -3,8 +3,8 @@
 use Rattle.std.specs.Prelude.{ℕ, ◌+◌, ◌-◌, ◌^◌, min, Bool, true, cond, ◌&&◌, List, [], ◌∷◌, eqb, leb, ltb, drop}
 use Rattle.limits.specs.Ranges.{recorded_days, largest_number}
 use Rattle.limits.specs.Editions.{most_held}
-use Rattle.verdict.specs.declared.Verdict.{Verdict}
-use Rattle.verdict.specs.declared.Verdict.TheVariants.{Accepted, BadRecord, DayNotAfter}
+use Rattle.verdict.specs.Verdict.{Accepted, Verdict}
+use Rattle.verdict.specs.declared.Refusal.TheVariants.{BadRecord, DayNotAfter}
 use Rattle.verdict.specs.First.{rule◌else◌then◌, ◌or_else◌}
 use Rattle.calendar.specs.Date.{real_date}
 use Rattle.calendar.specs.DayNumber.{day_number}

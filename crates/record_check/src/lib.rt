@@ -13,7 +13,7 @@ ghost use Rattle.record_check.specs.Left.{marks_end, place_left, places_left, pl
 
 use dayfile::Told;
 use recording::{Place, Record};
-use verdict::Verdict;
+use verdict::Refusal;
 
 // The number of the last day entered; 0 before the first.
 fn last_number(last: u32) -> u32
@@ -124,16 +124,16 @@ fn record_left(given: Record) -> bool
 }
 
 // 14, then 18, for a trading day.
-fn judge(given: Record, date: u32) -> Verdict
+fn judge(given: Record, date: u32) -> Result<(), Refusal>
     ensures { result ≡ record_rule given date }
 {
     if !record_left(given) {
-        return Verdict::BadRecord;
+        return Err(Refusal::BadRecord);
     }
     if date <= given.last {
-        return Verdict::DayNotAfter;
+        return Err(Refusal::DayNotAfter);
     }
-    Verdict::Accepted
+    Ok(())
 }
 
 // The check of a day file, which tells its plain areas, then the record judged for its trading day.

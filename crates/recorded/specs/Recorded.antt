@@ -1,6 +1,6 @@
 -- Settlement with the record (docs/RULES.md, section 12): d of each area is counted from its marks, and the file's own is not looked at.
 use Rattle.std.specs.Prelude.{ℕ, List, ℤ}
-use Rattle.verdict.specs.declared.Verdict.{Verdict}
+use Rattle.verdict.specs.Verdict.{Verdict}
 use Rattle.verdict.specs.First.{◌or_else◌}
 use Rattle.contents.specs.File.{day_of}
 use Rattle.dayfile.specs.Check.{check_of}

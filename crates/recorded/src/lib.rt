@@ -14,7 +14,7 @@ ghost use Rattle.settlement.specs.Settlement.{days_by, accepted_rule};
 ghost use Rattle.recorded.specs.Recorded.{record_days, settle_recorded, after_recorded};
 
 use recording::Record;
-use verdict::Verdict;
+use verdict::Refusal;
 
 // The d of n areas on a day that is g days after the last day entered.
 fn recorded_days(given: Record, g: u32, file: &[u8], n: usize) -> [u32; limits::PROVED_AREAS]
@@ -37,7 +37,7 @@ fn settle_after(
     given: Record,
     file: &[u8],
     statement: &mut [i64],
-) -> Verdict
+) -> Result<(), Refusal>
     requires { (number_of (admit_rule given file.now) ≡ 0) × (PlainTold plain file.now (areas_of file.now)) }
     ensures value { result ≡ accepted_rule (days_by (record_days given (day_of file.now)) file.now) file.now
         (length statement.old) }
@@ -52,15 +52,12 @@ fn settle_after(
 
 // Checks the whole file and the record, then settles the file into `statement` with the d that the record counts. The record stays, and a refusal
 // leaves the statement as it was.
-pub fn settle_recorded(given: Record, file: &[u8], statement: &mut [i64]) -> Verdict
+pub fn settle_recorded(given: Record, file: &[u8], statement: &mut [i64]) -> Result<(), Refusal>
     ensures value { result ≡ settle_recorded given file.now (length statement.old) }
     ensures statement_after { statement.new ≡ after_recorded given file.now result statement.old }
 {
     let told = record_check::admit(given, file);
-    let v = told.answer;
-    if verdict::number(v) != 0 {
-        return v;
-    }
+    told.answer?;
     let plain = told.plain;
     settle_after(plain, given, file, statement)
 }

@@ -1,8 +1,7 @@
 -- "The C call takes file bytes and statement bytes (8 little-endian bytes a number) and returns number × 1,000,000 + place.
 -- Bytes past the last whole number don't count and stay."
 use Rattle.std.specs.Prelude.{ℕ, ◌*◌, ◌/◌, cond, List, ◌++◌, eqb, length, drop}
-use Rattle.verdict.specs.declared.Verdict.{Verdict}
-use Rattle.verdict.specs.Verdict.{number_of}
+use Rattle.verdict.specs.Verdict.{number_of, Verdict}
 use Rattle.encoding.specs.Encoding.{encoded}
 use Rattle.contents.specs.File.{areas_of}
 use Rattle.settlement.specs.Settlement.{numbers_needed, statement_to, days_by, own_days, settle_of}

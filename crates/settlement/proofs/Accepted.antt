@@ -10,8 +10,7 @@ use Rattle.limits.specs.declared.Limits.{Limits}
 use Rattle.limits.specs.Ranges.{proved_points}
 use Rattle.limits.specs.Editions.{limits_of}
 use Rattle.limits.proofs.Editions.{proved}
-use Rattle.verdict.specs.declared.Verdict.{Verdict}
-use Rattle.verdict.specs.Verdict.{number_of}
+use Rattle.verdict.specs.Verdict.{number_of, Verdict}
 use Rattle.verdict.specs.First.{◌or_else◌}
 use Rattle.verdict.proofs.First.{or_next, scan_same}
 use Rattle.body.proofs.Kept.{always, sound_more}

@@ -10,8 +10,7 @@ use lib.IntN.{nat_abs}
 use borrow.Author.Tests.{eqb-true, leb-true, lt-ltb}
 use Rattle.exact.specs.Total.{total}
 use Rattle.limits.specs.Ranges.{day_hours}
-use Rattle.verdict.specs.declared.Verdict.{Verdict}
-use Rattle.verdict.specs.declared.Verdict.TheVariants.{Accepted}
+use Rattle.verdict.specs.Verdict.{Accepted, Verdict}
 use Rattle.verdict.proofs.First.{both, or_next, scan_holds}
 use Rattle.hour.specs.Plain.{plain_hour}
 use Rattle.body.specs.Layout.{kind_of, intervals_at, demands_of}

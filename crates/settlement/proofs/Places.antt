@@ -10,9 +10,8 @@ use lib.Dec.{leb, eqb}
 use lib.ListN.{length}
 use Rattle.limits.specs.Ranges.{day_hours, least_present, most_coordinators}
 use Rattle.limits.proofs.Editions.{areas_most, bytes_most}
-use Rattle.verdict.specs.declared.Verdict.{Verdict}
-use Rattle.verdict.specs.declared.Verdict.TheVariants.{Accepted, PriceWithoutQuantity, AmountWithoutDemand, RoomTooShort, TooFewIntervals}
-use Rattle.verdict.specs.Verdict.{number_of, place_of}
+use Rattle.verdict.specs.declared.Refusal.TheVariants.{PriceWithoutQuantity, AmountWithoutDemand, RoomTooShort, TooFewIntervals}
+use Rattle.verdict.specs.Verdict.{number_of, place_of, Accepted, Verdict}
 use Rattle.verdict.proofs.Accepted.{accepted_place}
 use Rattle.verdict.proofs.First.{Holds, rule_holds, or_holds, scan_holds}
 use Rattle.body.specs.Layout.{kind_of, points_of, coordinators_of, hour_at, intervals_at, demands_at}

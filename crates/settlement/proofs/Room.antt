@@ -13,7 +13,7 @@ use Rattle.settlement.specs.Settlement.{numbers_needed, areas_refusal, accepted_
 module _ (days : ℕ → ℕ) (file : List ℕ) where
   pub needed_fits : (room : ℕ) → number_of (accepted_rule days file room) ≡ 0 → numbers_needed file ≤ room
   unfolding accepted_rule
-  needed_fits room z = leb-true _ _ (kept (leb (numbers_needed file) room) _ (areas_refusal days file) (λ q. omega arith) z).0
+  needed_fits room z = leb-true _ _ (kept (leb (numbers_needed file) room) _ (areas_refusal days file) z).0
 
   pub check_accepts : (room : ℕ) → number_of (settle_with days file room) ≡ 0 → number_of (check_of file) ≡ 0
   unfolding settle_with

@@ -4,9 +4,8 @@ use Rattle.std.specs.Prelude.{ℕ, zero, suc, ◌+◌, ◌*◌, ◌-◌, ◌/◌
 use Rattle.exact.specs.Total.{total}
 use Rattle.limits.specs.Ranges.{day_hours, most_coordinators}
 use Rattle.limits.specs.Editions.{most_areas, most_bytes}
-use Rattle.verdict.specs.declared.Verdict.{Verdict}
-use Rattle.verdict.specs.declared.Verdict.TheVariants.{Accepted, AmountWithoutDemand, RoomTooShort}
-use Rattle.verdict.specs.Verdict.{number_of}
+use Rattle.verdict.specs.declared.Refusal.TheVariants.{AmountWithoutDemand, RoomTooShort}
+use Rattle.verdict.specs.Verdict.{number_of, Accepted, Verdict}
 use Rattle.verdict.specs.First.{rule◌else◌then◌, ◌or_else◌, scan}
 use Rattle.body.specs.Layout.{kind_of, days_of, coordinators_of, demands_at, demands_of}
 use Rattle.contents.specs.File.{areas_of, peak_of, number_at, start_at, body_at}

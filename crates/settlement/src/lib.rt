@@ -16,7 +16,7 @@ ghost use Rattle.settlement.specs.Settlement.{needed_to, statement_to, terms_in,
 ghost use Rattle.settlement.specs.Settlement.{areas_refusal, listed, accepted_rule, after_with, settle_of, after};
 
 use surcharge::{Day, Terms};
-use verdict::Verdict;
+use verdict::Refusal;
 
 // The numbers of the longest area: one of CISO with the most coordinators.
 const MOST_AREA_NUMBERS: usize = limits::DAY_HOURS
@@ -109,12 +109,12 @@ fn chargeable_hour(terms: Terms, day: Day, body: &[u8], h: usize, at: usize) -> 
 }
 
 // What charging hour h refuses, in the body that starts at word `start` of the file.
-fn check_charge(terms: Terms, day: Day, start: usize, body: &[u8], h: usize, at: usize) -> Verdict
+fn check_charge(terms: Terms, day: Day, start: usize, body: &[u8], h: usize, at: usize) -> Result<(), Refusal>
     requires { (AtHour terms day body.now h at) × (start < 4294967296) }
     ensures { result ≡ charge_rule terms start body.now h }
 {
     if chargeable_hour(terms, day, body, h, at) {
-        return Verdict::Accepted;
+        return Ok(());
     }
     let load = words::word(body, 5) as usize;
     Verdict::AmountWithoutDemand {
@@ -123,19 +123,16 @@ fn check_charge(terms: Terms, day: Day, start: usize, body: &[u8], h: usize, at:
 }
 
 // The first refusal of hour h, in the body that starts at word `start` of the file.
-fn check_hour(terms: Terms, day: Day, start: usize, body: &[u8], h: usize, at: usize) -> Verdict
+fn check_hour(terms: Terms, day: Day, start: usize, body: &[u8], h: usize, at: usize) -> Result<(), Refusal>
     requires { (AtHour terms day body.now h at) × (start < 4294967296) }
     ensures { result ≡ hour_refusal terms start body.now h }
 {
-    let first = amounts::check_price(terms, day, start, body, h, at);
-    if verdict::number(first) != 0 {
-        return first;
-    }
+    amounts::check_price(terms, day, start, body, h, at)?;
     check_charge(terms, day, start, body, h, at)
 }
 
 // The first refusal among the hours of an area, one by one.
-fn check_hours(terms: Terms, start: usize, body: &[u8]) -> Verdict
+fn check_hours(terms: Terms, start: usize, body: &[u8]) -> Result<(), Refusal>
     requires { (TermsKept terms) × ((Sound proved_points body.now) × (start < 4294967296)) }
     ensures { result ≡ hours_refusal terms start body.now }
 {
@@ -145,24 +142,21 @@ fn check_hours(terms: Terms, start: usize, body: &[u8]) -> Verdict
     let mut at = body::first_hour(load, count);
     let mut h: usize = 0;
     while h < limits::DAY_HOURS {
-        let v = check_hour(terms, day, start, body, h, at);
-        if verdict::number(v) != 0 {
-            return v;
-        }
+        check_hour(terms, day, start, body, h, at)?;
         at = body::next_hour(load, count, h, at);
         h += 1;
     }
-    Verdict::Accepted
+    Ok(())
 }
 
 // The first refusal among the hours of an area: none of a plain one.
-fn check_area(plain: bool, terms: Terms, start: usize, body: &[u8]) -> Verdict
+fn check_area(plain: bool, terms: Terms, start: usize, body: &[u8]) -> Result<(), Refusal>
     requires terms_body_and_start { (TermsKept terms) × ((Sound proved_points body.now) × (start < 4294967296)) }
     requires plain_told { plain ≡ plain_area body.now }
     ensures { result ≡ hours_refusal terms start body.now }
 {
     if plain {
-        return Verdict::Accepted;
+        return Ok(());
     }
     check_hours(terms, start, body)
 }
@@ -174,7 +168,7 @@ fn check_areas(
     days: &[u32],
     file: &[u8],
     n: usize,
-) -> Verdict
+) -> Result<(), Refusal>
     requires settleable { (Settleable days.now file.now) × ((n ≡ areas_of file.now) × (peak ≡ peak_of file.now)) }
     requires plain_told { PlainTold plain file.now n }
     ensures { result ≡ areas_refusal (listed days.now file.now) file.now }
@@ -184,13 +178,10 @@ fn check_areas(
         let start = words::word(file, 4 + 3 * k + 1) as usize;
         let body = contents::body_at(file, k);
         let terms = terms_of(peak, days, k, body);
-        let v = check_area(plain[k], terms, start, body);
-        if verdict::number(v) != 0 {
-            return v;
-        }
+        check_area(plain[k], terms, start, body)?;
         k += 1;
     }
-    Verdict::Accepted
+    Ok(())
 }
 
 // Past the check: 13, then areas and hours in order, for a statement of so many numbers.
@@ -199,7 +190,7 @@ fn answer_accepted(
     days: &[u32],
     file: &[u8],
     room: usize,
-) -> Verdict
+) -> Result<(), Refusal>
     requires { (Settleable days.now file.now) × (PlainTold plain file.now (areas_of file.now)) }
     ensures { result ≡ accepted_rule (listed days.now file.now) file.now room }
 {
@@ -207,7 +198,7 @@ fn answer_accepted(
     let peak = words::word(file, 3);
     let needed = numbers_needed(file, n);
     if room < needed {
-        return Verdict::RoomTooShort { needed };
+        return Err(Refusal::RoomTooShort { needed });
     }
     check_areas(plain, peak, days, file, n)
 }
@@ -218,16 +209,13 @@ pub fn settle_accepted(
     days: &[u32],
     file: &[u8],
     statement: &mut [i64],
-) -> Verdict
+) -> Result<(), Refusal>
     requires { (Settleable days.now file.now) × (PlainTold plain file.now (areas_of file.now)) }
     ensures value { result ≡ accepted_rule (listed days.now file.now) file.now (length statement.old) }
     ensures statement_after { statement.new
         ≡ after_with (listed days.now file.now) file.now result statement.old }
 {
-    let v = answer_accepted(plain, days, file, statement.len());
-    if verdict::number(v) != 0 {
-        return v;
-    }
+    answer_accepted(plain, days, file, statement.len())?;
     let n = words::word(file, 2) as usize;
     let peak = words::word(file, 3);
     write_areas(peak, days, file, n, statement);
@@ -235,14 +223,11 @@ pub fn settle_accepted(
 }
 
 // What settling the file into a statement of so many numbers answers; nothing is written.
-pub fn answer(file: &[u8], room: usize) -> Verdict
+pub fn answer(file: &[u8], room: usize) -> Result<(), Refusal>
     ensures { result ≡ settle_of file.now room }
 {
     let told = dayfile::checked(file);
-    let v = told.answer;
-    if verdict::number(v) != 0 {
-        return v;
-    }
+    told.answer?;
     let plain = told.plain;
     let own = [0u32; 0];
     answer_accepted(plain, &own, file, room)
@@ -250,15 +235,12 @@ pub fn answer(file: &[u8], room: usize) -> Verdict
 
 // Checks the whole file, then settles it into `statement`: area after area, 24 hours of its amounts and K charges each. A
 // refusal leaves the statement as it was.
-pub fn settle(file: &[u8], statement: &mut [i64]) -> Verdict
+pub fn settle(file: &[u8], statement: &mut [i64]) -> Result<(), Refusal>
     ensures value { result ≡ settle_of file.now (length statement.old) }
     ensures statement_after { statement.new ≡ after result file.now statement.old }
 {
     let told = dayfile::checked(file);
-    let v = told.answer;
-    if verdict::number(v) != 0 {
-        return v;
-    }
+    told.answer?;
     let plain = told.plain;
     let own = [0u32; 0];
     settle_accepted(plain, &own, file, statement)

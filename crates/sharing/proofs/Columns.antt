@@ -11,8 +11,8 @@ use lib.IntN.{ℤ}
 use lib.ListN.{length, get_or, take, drop, set, length-map, length-take, length-replicate, drop_of_length-le, get_or-map}
 use lib.Seq.{take_all, get_or-take, take-append_seam}
 use borrow.Author.Tests.{le-leb, lt-leb}
-use Rattle.verdict.specs.declared.Verdict.{Verdict}
-use Rattle.verdict.specs.declared.Verdict.TheVariants.{BadLength}
+use Rattle.verdict.specs.Verdict.{Verdict}
+use Rattle.verdict.specs.declared.Refusal.TheVariants.{BadLength}
 use Rattle.limits.specs.Ranges.{most_coordinators}
 use Rattle.exact.proofs.Filling.{Filling, fill_start, fill_step, fill_end, drop_next}
 use Rattle.sharing.specs.Rows.{coordinator_column, demand_column, SharedRows}

@@ -1,6 +1,6 @@
 -- The copy of a table of rows that the sharing call works on: a column for each field. No public promise speaks of it.
 use Rattle.std.specs.Prelude.{ℕ, List, ◌++◌, ◌≡◌, ℤ, length, take, drop, replicate}
-use Rattle.verdict.specs.declared.Verdict.{Verdict}
+use Rattle.verdict.specs.Verdict.{Verdict}
 use Rattle.limits.specs.Ranges.{most_coordinators}
 use Rattle.columns.specs.Columns.{columns_rule, charges_after}
 use Rattle.sharing.specs.declared.Row.{Row}

@@ -1,7 +1,7 @@
 -- The sharing call (docs/RULES.md, section 11), over a table of rows, each a coordinator number and a demand: what it refuses, and the charges afterwards.
 use Rattle.std.specs.Prelude.{ℕ, ◌&&◌, List, map, ◌≡◌, leb, ℤ, length}
-use Rattle.verdict.specs.declared.Verdict.{Verdict}
-use Rattle.verdict.specs.declared.Verdict.TheVariants.{BadLength}
+use Rattle.verdict.specs.Verdict.{Verdict}
+use Rattle.verdict.specs.declared.Refusal.TheVariants.{BadLength}
 use Rattle.verdict.specs.First.{rule◌else◌then◌}
 use Rattle.limits.specs.Ranges.{most_coordinators}
 use Rattle.columns.specs.Columns.{columns_rule, charges_after}

@@ -5,7 +5,7 @@ ghost use Rattle.std.specs.Prelude.{◌≡◌, min, take};
 ghost use Rattle.sharing.specs.Rows.{SharedRows};
 ghost use Rattle.sharing.specs.Columns.{table_of, SharedTable};
 
-use verdict::Verdict;
+use verdict::Refusal;
 
 #[derive(Clone, Copy)]
 pub struct Row {
@@ -33,15 +33,15 @@ fn at_most(n: usize, most: usize) -> usize
     n
 }
 
-fn share_table(amount: i64, table: Table, charges: &mut [i64]) -> Verdict
+fn share_table(amount: i64, table: Table, charges: &mut [i64]) -> Result<(), Refusal>
     ensures { SharedTable amount table charges.old result charges.new }
 {
     let count = table.count;
     if count < 1 {
-        return Verdict::BadLength;
+        return Err(Refusal::BadLength);
     }
     if limits::MOST_COORDINATORS < count {
-        return Verdict::BadLength;
+        return Err(Refusal::BadLength);
     }
     let coordinators = table.coordinators;
     let demands = table.demands;
@@ -71,7 +71,7 @@ fn table_of(rows: &[Row]) -> Table
 }
 
 // The sharing call.
-pub fn share(amount: i64, rows: &[Row], charges: &mut [i64]) -> Verdict
+pub fn share(amount: i64, rows: &[Row], charges: &mut [i64]) -> Result<(), Refusal>
     ensures { SharedRows amount rows.now charges.old result charges.new }
 {
     share_table(amount, table_of(rows), charges)
@@ -83,7 +83,7 @@ pub fn share_array(
     rows: [Row; ROWS_BY_VALUE],
     n: usize,
     charges: &mut [i64],
-) -> Verdict
+) -> Result<(), Refusal>
     ensures { SharedRows amount (take n rows) charges.old result charges.new }
 {
     let lent = at_most(n, ROWS_BY_VALUE);

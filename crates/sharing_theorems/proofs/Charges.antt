@@ -25,7 +25,7 @@ module _ (amount : ℤ) (rows : List Row) where
 
   pub accepted : (room : ℕ) → number_of (share_of amount rows room) ≡ 0 → Accepted amount demands room
   accepted room z =
-      let counted = kept (leb 1 (length rows) && leb (length rows) most_coordinators) _ _ (λ q. omega arith) z in
+      let counted = kept (leb 1 (length rows) && leb (length rows) most_coordinators) _ _ z in
       columns_accepted amount (coordinator_column rows) demands room counted.1
 
   pub charged : (charges : List ℤ) → number_of (share_of amount rows (length charges)) ≡ 0 → row_charges amount rows charges ≡ shares amount demands

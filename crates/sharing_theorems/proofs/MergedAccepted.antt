@@ -38,7 +38,7 @@ module _ (coordinators demands : List ℕ) (same : length coordinators ≡ lengt
   rows-rise z i p =
       let each = or_first _ _ (scan_each (row_rule_at coordinators demands) (length demands) z i (omega (arith, same))) in
       let c = get_or coordinators i 0 in
-      let k = both _ _ (kept (ltb (coordinator_above coordinators i) c && leb c largest_number) _ _ (λ q. omega arith) each).0 in
+      let k = both _ _ (kept (ltb (coordinator_above coordinators i) c && leb c largest_number) _ _ each).0 in
       (ltb-true (coordinator_above coordinators i) c k.0, leb-true _ _ k.1)
 
   rows-accept : ((i : ℕ) → i < length coordinators → RisesAt coordinators i) → total demands ≤ most_demand → number_of (rows_rule coordinators demands) ≡ 0
@@ -70,19 +70,19 @@ module _ (i n number : ℕ) (amount : ℤ) (rows : List Row) (room : ℕ) (g : M
 
   counted : (length rows ≤ most_coordinators) × (number_of (columns_rule amount cs ds room) ≡ 0)
   counted =
-      let k = kept (leb 1 (length rows) && leb (length rows) most_coordinators) _ _ (λ q. omega arith) z in
+      let k = kept (leb 1 (length rows) && leb (length rows) most_coordinators) _ _ z in
       (leb-true (length rows) most_coordinators (both (leb 1 (length rows)) (leb (length rows) most_coordinators) k.0).1, k.1)
 
   told : (leb (nat_abs amount) most_amount ≡ true) × ((number_of (rows_rule cs ds) ≡ 0) × (number_of (charges_rule amount (total ds) (length ds) room) ≡ 0))
   unfolding columns_rule
   told =
-      let k = kept (leb (nat_abs amount) most_amount) _ _ (λ q. omega arith) counted.1 in
+      let k = kept (leb (nat_abs amount) most_amount) _ _ counted.1 in
       (k.0, (or_first (rows_rule cs ds) _ k.1, or_second (rows_rule cs ds) _ k.1))
 
   paid : (length ds ≤ room) × ((eqb (nat_abs amount) 0 || ltb 0 (total ds)) ≡ true)
   paid =
-      let k = kept (leb (length ds) room) _ _ (λ q. omega arith) told.1.1 in
-      (leb-true (length ds) room k.0, (kept (eqb (nat_abs amount) 0 || ltb 0 (total ds)) _ _ (λ q. omega arith) k.1).0)
+      let k = kept (leb (length ds) room) _ _ told.1.1 in
+      (leb-true (length ds) room k.0, (kept (eqb (nat_abs amount) 0 || ltb 0 (total ds)) _ _ k.1).0)
 
   -- ---- the same of the merged rows
 

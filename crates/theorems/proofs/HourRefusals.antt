@@ -12,9 +12,8 @@ use lib.ListN.{length}
 use borrow.Author.Tests.{eqb-true, eq-eqb, eqb-false, ne_eqb, leb-true, le-leb, leb-false, lt-leb, ltb-false, le-ltb}
 use Rattle.exact.specs.Total.{total}
 use Rattle.limits.specs.Ranges.{least_present}
-use Rattle.verdict.specs.declared.Verdict.{Verdict}
-use Rattle.verdict.specs.declared.Verdict.TheVariants.{Accepted, PriceWithoutQuantity, AmountWithoutDemand, TooFewIntervals}
-use Rattle.verdict.specs.Verdict.{number_of, place_of}
+use Rattle.verdict.specs.declared.Refusal.TheVariants.{PriceWithoutQuantity, AmountWithoutDemand, TooFewIntervals}
+use Rattle.verdict.specs.Verdict.{number_of, place_of, Accepted, Verdict}
 use Rattle.verdict.specs.First.{rule◌else◌then◌, ◌or_else◌}
 use Rattle.body.specs.Layout.{kind_of, points_of, demands_of}
 use Rattle.contents.specs.File.{body_at}

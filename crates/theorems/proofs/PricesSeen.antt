@@ -9,8 +9,8 @@ use lib.IntN.{ℤ}
 use lib.ListN.{length}
 use borrow.Author.Tests.{leb-true}
 use Rattle.limits.specs.Ranges.{day_hours, least_present}
-use Rattle.verdict.specs.declared.Verdict.TheVariants.{Accepted, TooFewIntervals}
-use Rattle.verdict.specs.Verdict.{number_of}
+use Rattle.verdict.specs.declared.Refusal.TheVariants.{TooFewIntervals}
+use Rattle.verdict.specs.Verdict.{number_of, Accepted}
 use Rattle.verdict.proofs.First.{kept}
 use Rattle.body.specs.Layout.{flag_of, points_of, intervals_at}
 use Rattle.contents.specs.File.{areas_of, body_at}
@@ -37,7 +37,7 @@ module _ (terms : Terms) (body : List ℕ) (h : ℕ) where
   enough start z needed =
       let place = start + intervals_at body h in
       let usable = ap (λ t. number_of (cond t (usable_rule place (points_of body) (price_answer_at body h)) Accepted)) (sym needed) ∙ z in
-      leb-true _ _ (rw (← seen_at body h) (kept (leb (least_present * points_of body) (answer_count (price_answer_at body h))) (TooFewIntervals place) _ (λ q. omega arith) usable).0)
+      leb-true _ _ (rw (← seen_at body h) (kept (leb (least_present * points_of body) (answer_count (price_answer_at body h))) (TooFewIntervals place) _ usable).0)
 
   else_none : price_needed terms body h ≡ false → (price : ℤ)
       → (on_peak_at_price terms body h price ≡ on_peak_amount terms body h) × (off_peak_at_price terms body h price ≡ off_peak_amount terms body h)

@@ -28,14 +28,14 @@ pub hour_accepted : (d : ℕ → List ℕ → ℕ) (file : List ℕ) (room : ℕ
 unfolding settle_with accepted_rule areas_refusal area_refusal hours_refusal
 hour_accepted d file room z k h area hour =
     let days = days_by d file in
-    let roomy = kept (leb (numbers_needed file) room) _ (areas_refusal days file) (λ q. omega arith) (or_second (check_of file) _ z) in
+    let roomy = kept (leb (numbers_needed file) room) _ (areas_refusal days file) (or_second (check_of file) _ z) in
     scan_each _ day_hours (scan_each (area_refusal days file) (areas_of file) roomy.1 k area) h hour
 
 pub charged : (terms : Terms) (start : ℕ) (body : List ℕ) (h : ℕ) → number_of (hour_refusal terms start body h) ≡ 0
     → (kind_of body ≡ 1 → ⊥) ⊎ ((amount_at terms body h ≡ pos 0) ⊎ (0 < total (demands_of body h)))
 unfolding hour_refusal charge_rule chargeable
 charged terms start body h z =
-    let test = (kept (chargeable terms body h) _ _ (λ q. omega arith) (or_second _ _ z)).0 in
+    let test = (kept (chargeable terms body h) _ _ (or_second _ _ z)).0 in
     ⊎_elim
     (λ t. inl (eqb-false _ _ (not-true _ t)))
     (λ t. inr (shareable_when (amount_at terms body h) _ t))

@@ -36,7 +36,7 @@ module _ (terms : Terms) (start : ℕ) (body : List ℕ) (h : ℕ) where
   hour-settled z =
       record {
         priced = λ elsewhere. price_anywhere terms body h elsewhere start ∙ or_first _ _ z;
-        paid = (kept (chargeable terms body h) _ _ (λ q. omega arith) (or_second _ _ z)).0;
+        paid = (kept (chargeable terms body h) _ _ (or_second _ _ z)).0;
       }
 
   hour-accepts : HourSettled terms body h → number_of (hour_refusal terms start body h) ≡ 0

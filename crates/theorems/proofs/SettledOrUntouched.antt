@@ -11,9 +11,8 @@ use lib.IntN.{ℤ}
 use lib.ListN.{length, drop}
 use borrow.Author.Tests.{le-leb, lt-leb}
 use Rattle.limits.specs.Ranges.{day_hours}
-use Rattle.verdict.specs.declared.Verdict.{Verdict}
-use Rattle.verdict.specs.declared.Verdict.TheVariants.{RoomTooShort}
-use Rattle.verdict.specs.Verdict.{number_of}
+use Rattle.verdict.specs.declared.Refusal.TheVariants.{RoomTooShort}
+use Rattle.verdict.specs.Verdict.{number_of, Verdict}
 use Rattle.verdict.specs.First.{scan}
 use Rattle.verdict.proofs.First.{scan_each, all_accept, or_stop, or_next}
 use Rattle.contents.specs.File.{areas_of}

@@ -2,9 +2,8 @@
 use Rattle.std.specs.Prelude.{ℕ, ◌+◌, ◌*◌, ◌≤◌, ◌<◌, true, List, ◌⊎◌, ◌≡◌, nat_abs, length}
 use Rattle.exact.specs.Total.{total}
 use Rattle.limits.specs.Ranges.{day_hours, least_present}
-use Rattle.verdict.specs.declared.Verdict.{Verdict}
-use Rattle.verdict.specs.declared.Verdict.TheVariants.{RoomTooShort}
-use Rattle.verdict.specs.Verdict.{number_of}
+use Rattle.verdict.specs.declared.Refusal.TheVariants.{RoomTooShort}
+use Rattle.verdict.specs.Verdict.{number_of, Verdict}
 use Rattle.body.specs.Layout.{kind_of, points_of, intervals_at, demands_at, demands_of}
 use Rattle.contents.specs.File.{areas_of, start_at, body_at}
 use Rattle.dayfile.specs.Check.{check_of}

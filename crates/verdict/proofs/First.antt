@@ -9,61 +9,62 @@ use native.Mathlib.Numerals.{add-one}
 use native.Mathlib.Nat.{add-zero, sub-zero, zero-add}
 use lib.Dec.{eqb}
 use borrow.Author.Tests.{eq-eqb, ne_eqb, eqb-true, eqb-false}
-use Rattle.verdict.specs.declared.Verdict.{Verdict}
-use Rattle.verdict.specs.declared.Verdict.TheVariants.{Accepted}
-use Rattle.verdict.specs.Verdict.{number_of}
+use Rattle.std.specs.Prelude.{Ok, Err, ⊤}
+use Rattle.verdict.specs.declared.Refusal.{Refusal}
+use Rattle.verdict.specs.Verdict.{Verdict, Accepted, number_of, refusal_number}
 use Rattle.verdict.specs.First.{rule◌else◌then◌, ◌or_else◌, scan}
+use Rattle.verdict.proofs.Accepted.{no_refusal_is_zero, accepted_alone}
 
 -- ---- what an acceptance tells
 
--- a rule whose refusal is no acceptance was kept: its test holds, and the rest accepts
-pub kept : (test : Bool) (refusal rest : Verdict) → (number_of refusal ≡ 0 → ⊥) → number_of (rule test else refusal then rest) ≡ 0
+-- a rule that accepts was kept: its test holds, and the rest accepts
+pub kept : (test : Bool) (refusal : Refusal) (rest : Verdict) → number_of (rule test else refusal then rest) ≡ 0
     → (test ≡ true) × (number_of rest ≡ 0)
-kept true refusal rest never z = (refl, z)
-kept false refusal rest never z = absurd (never z)
+kept true refusal rest z = (refl, z)
+kept false refusal rest z = absurd (no_refusal_is_zero refusal z)
 
 pub both : (a b : Bool) → (a && b) ≡ true → (a ≡ true) × (b ≡ true)
 both true b h = (refl, h)
 both false b h = (h, cc)
 
+-- where the first accepts, the second decides
+pub or_accepted : (nothing : ⊤) (second : Verdict) → (Ok nothing or_else second) ≡ second
+unfolding ◌or_else◌
+or_accepted nothing second = refl
+
+pub or_next : (first second : Verdict) → number_of first ≡ 0 → (first or_else second) ≡ second
+or_next first second z = ap (λ v. v or_else second) (accepted_alone first z) ∙ or_accepted _ second
+
+-- where the first refuses, that is the answer
+pub or_refused : (refusal : Refusal) (second : Verdict) → (Err refusal or_else second) ≡ Err refusal
+unfolding ◌or_else◌
+or_refused refusal second = refl
+
+-- two parts accept exactly if each does
+pub or_accepts : (first second : Verdict)
+    → eqb (number_of (first or_else second)) 0 ≡ (eqb (number_of first) 0 && eqb (number_of second) 0)
+unfolding ◌or_else◌
+or_accepts (Ok _) second = refl
+or_accepts (Err refusal) second = rw (ne_eqb _ _ (no_refusal_is_zero refusal))
+
 module _ (first second : Verdict) where
-  pub or_next : number_of first ≡ 0 → (first or_else second) ≡ second
-  unfolding ◌or_else◌
-  or_next h = simp (eq-eqb _ _ h)
-
-  pub or_stop : (number_of first ≡ 0 → ⊥) → (first or_else second) ≡ first
-  unfolding ◌or_else◌
-  or_stop h = simp (ne_eqb _ _ h)
-
-  -- two parts accept exactly if each does
-  pub or_accepts : eqb (number_of (first or_else second)) 0 ≡ (eqb (number_of first) 0 && eqb (number_of second) 0)
-  unfolding ◌or_else◌
-  or_accepts = by (eqb (number_of first) 0) refl
-    where
-      by : (t : Bool) → eqb (number_of first) 0 ≡ t → eqb (number_of (cond t second first)) 0 ≡ (t && eqb (number_of second) 0)
-      by true e = refl
-      by false e = e
-
   pub or_first : number_of (first or_else second) ≡ 0 → number_of first ≡ 0
-  or_first z = eqb-true _ _ (both _ _ (sym or_accepts ∙ eq-eqb _ _ z)).0
+  or_first z = eqb-true _ _ (both _ _ (sym (or_accepts first second) ∙ eq-eqb _ _ z)).0
 
   pub or_second : number_of (first or_else second) ≡ 0 → number_of second ≡ 0
-  or_second z = ap number_of (sym (or_next (or_first z))) ∙ z
+  or_second z = ap number_of (sym (or_next first second (or_first z))) ∙ z
 
 -- three parts in order, however they are taken together
 pub or_assoc : (first second third : Verdict) → ((first or_else second) or_else third) ≡ (first or_else (second or_else third))
-or_assoc first second third =
-    dite (ℕ_discrete (number_of first) 0)
-    (λ z. ap (λ v. v or_else third) (or_next first second z) ∙ sym (or_next first (second or_else third) z))
-    (λ n. ap (λ v. v or_else third) (or_stop first second n) ∙ or_stop first third n ∙ sym (or_stop first (second or_else third) n))
+unfolding ◌or_else◌
+or_assoc (Ok _) second third = refl
+or_assoc (Err refusal) second third = refl
 
 -- what stands second is looked at only where the first accepts
 pub or_same : (first second other : Verdict) → (number_of first ≡ 0 → second ≡ other) → (first or_else second) ≡ (first or_else other)
-or_same first second other e = by (eqb (number_of first) 0) refl
-  where
-    by : (t : Bool) → eqb (number_of first) 0 ≡ t → (first or_else second) ≡ (first or_else other)
-    by true z = ap (λ v. first or_else v) (e (eqb-true _ _ z))
-    by false z = or_stop first second (eqb-false _ _ z) ∙ sym (or_stop first other (eqb-false _ _ z))
+unfolding ◌or_else◌
+or_same (Ok _) second other e = e refl
+or_same (Err refusal) second other e = refl
 
 scan_all : (part : ℕ → Verdict) (k n : ℕ) → number_of (scan part k n) ≡ 0 → (i : ℕ) → i < n → number_of (part (k + i)) ≡ 0
 unfolding scan
@@ -102,17 +103,15 @@ pub record Holds (P : Verdict → Type 0) (verdict : Verdict) : Type 0 where
   pub holds : P verdict
 
 module _ (P : Verdict → Type 0) where
-  pub rule_holds : (test : Bool) (refusal rest : Verdict) → (test ≡ false → P refusal) → (test ≡ true → Holds P rest)
+  pub rule_holds : (test : Bool) (refusal : Refusal) (rest : Verdict) → (test ≡ false → P (Err refusal)) → (test ≡ true → Holds P rest)
       → Holds P (rule test else refusal then rest)
   rule_holds true refusal rest a b = b refl
   rule_holds false refusal rest a b = record { holds = a refl }
 
   pub or_holds : (first second : Verdict) → Holds P first → (number_of first ≡ 0 → Holds P second) → Holds P (first or_else second)
-  or_holds first second a b = by (eqb (number_of first) 0) refl
-    where
-      by : (t : Bool) → eqb (number_of first) 0 ≡ t → Holds P (first or_else second)
-      by true e = rw (or_next first second (eqb-true _ _ e)) (b (eqb-true _ _ e))
-      by false e = rw (or_stop first second (eqb-false _ _ e)) a
+  unfolding ◌or_else◌
+  or_holds (Ok _) second a b = b refl
+  or_holds (Err refusal) second a b = a
 
   module _ (accepted : Holds P Accepted) where
     scan-holds-from : (part : ℕ → Verdict) (k n : ℕ) → ((i : ℕ) → i < k + n → Holds P (part i)) → Holds P (scan part k n)
@@ -128,8 +127,7 @@ pub all_accept : (part : ℕ → Verdict) (n : ℕ) → ((i : ℕ) → i < n →
 all_accept part n each =
     (scan_holds (λ (v : Verdict). number_of v ≡ 0) (record { holds = refl }) part n (λ i p. record { holds = each i p })).holds
 
--- ---- a loop over k from 0 to n, in a form that `search` can use: what each law asks stands in the fields of the place's record.
--- v is the turn's answer, r its number, and `whole` the answer of the whole loop.
+-- ---- a loop over k from 0 to n, whose answer is `whole`: what each law asks stands in the fields of the goal's record.
 
 unroll : (part : ℕ → Verdict) (k n : ℕ) → k < n → scan part k (n - k) ≡ (part k or_else scan part (k + 1) (n - (k + 1)))
 unfolding scan
@@ -143,15 +141,17 @@ scan_past part zero n h each = rw sub-zero
 scan_past part (suc k) n h each =
     scan_past part k n (omega arith) (λ i p. each i (omega arith)) ∙ unroll part k n h ∙ or_next _ _ (each k (omega arith)) ∙ rw add-one
 
-pub loop_stop : (whole : Verdict) (part : ℕ → Verdict) (k n : ℕ) (v : Verdict) (r : ℕ) → whole ≡ scan part k (n - k) → k < n
-    → v ≡ part k → r ≡ number_of v → (r ≡ 0 → ⊥) → v ≡ whole
-loop_stop whole part k n v r w below is number z =
-    sym (w ∙ unroll part k n below ∙ or_stop _ _ (λ q. z (number ∙ ap number_of is ∙ q)) ∙ sym is)
+-- the part of a turn refuses
+pub loop_stop : (whole : Verdict) (part : ℕ → Verdict) (k n : ℕ) (refusal : Refusal) → whole ≡ scan part k (n - k) → k < n
+    → part k ≡ Err refusal → Err refusal ≡ whole
+loop_stop whole part k n refusal w below is =
+    let rest = scan part (k + 1) (n - (k + 1)) in
+    sym (w ∙ unroll part k n below ∙ ap (λ v. v or_else rest) is ∙ or_refused refusal rest)
 
-pub loop_next : (whole : Verdict) (part : ℕ → Verdict) (k n : ℕ) (v : Verdict) (r : ℕ) → whole ≡ scan part k (n - k) → k < n
-    → v ≡ part k → r ≡ number_of v → r ≡ 0 → whole ≡ scan part (k + 1) (n - (k + 1))
-loop_next whole part k n v r w below is number z =
-    w ∙ unroll part k n below ∙ or_next _ _ (sym (ap number_of is) ∙ sym number ∙ z)
+-- the part of a turn accepts
+pub loop_next : (whole : Verdict) (part : ℕ → Verdict) (k n : ℕ) (nothing : ⊤) → whole ≡ scan part k (n - k) → k < n
+    → part k ≡ Ok nothing → whole ≡ scan part (k + 1) (n - (k + 1))
+loop_next whole part k n nothing w below is = w ∙ unroll part k n below ∙ or_next _ _ (ap number_of is)
 
 pub loop_done : (whole : Verdict) (part : ℕ → Verdict) (k n : ℕ) → whole ≡ scan part k (n - k) → n ≤ k → Accepted ≡ whole
 unfolding scan
@@ -161,10 +161,8 @@ loop_done whole part k n w h =
 
 -- ---- parts in order, in the same form
 
-pub seq_stop : (whole first second v : Verdict) (r : ℕ) → whole ≡ (first or_else second) → v ≡ first → r ≡ number_of v → (r ≡ 0 → ⊥)
-    → v ≡ whole
-seq_stop whole first second v r w is number z = sym (w ∙ or_stop _ _ (λ q. z (number ∙ ap number_of is ∙ q)) ∙ sym is)
+pub seq_stop : (whole first second : Verdict) (refusal : Refusal) → whole ≡ (first or_else second) → first ≡ Err refusal → Err refusal ≡ whole
+seq_stop whole first second refusal w is = sym (w ∙ ap (λ v. v or_else second) is ∙ or_refused refusal second)
 
-pub seq_next : (whole first second v : Verdict) (r : ℕ) → whole ≡ (first or_else second) → v ≡ first → r ≡ number_of v → r ≡ 0
-    → whole ≡ second
-seq_next whole first second v r w is number z = w ∙ or_next _ _ (sym (ap number_of is) ∙ sym number ∙ z)
+pub seq_next : (whole first second : Verdict) (nothing : ⊤) → whole ≡ (first or_else second) → first ≡ Ok nothing → whole ≡ second
+seq_next whole first second nothing w is = w ∙ or_next _ _ (ap number_of is)

@@ -1,3 +1,3 @@
 pub mod Tests
-pub mod First
 pub mod Accepted
+pub mod First

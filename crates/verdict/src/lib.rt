@@ -2,12 +2,11 @@
 #![tactic(auto)]
 
 ghost use Rattle.std.specs.Prelude.{◌≡◌, ◌<◌};
-ghost use Rattle.verdict.specs.Verdict.{number_of, place_of, coded};
+ghost use Rattle.verdict.specs.Verdict.{number_of, place_of, refusal_number, refusal_place, coded};
 
 // A case for each refusal of docs/RULES.md, in the order of their numbers. Each case's number and place are those of specs/Verdict.antt.
-#[derive(Clone, Copy)]
-pub enum Verdict {
-    Accepted,
+#[derive(Clone, Copy, Debug, PartialEq, Eq)]
+pub enum Refusal {
     BadLength,
     BadEdition,
     BadAreaCount,
@@ -33,72 +32,92 @@ pub enum Verdict {
     PaymentRoomTooShort { needed: usize },
 }
 
-// The number of the refusal (docs/RULES.md, section 10); 0 where nothing is refused.
-pub fn number(verdict: Verdict) -> u32
-    ensures { result ≡ number_of verdict }
-{
-    match verdict {
-        Verdict::Accepted => 0,
-        Verdict::BadLength => 1,
-        Verdict::BadEdition => 2,
-        Verdict::BadAreaCount => 3,
-        Verdict::BadDate => 4,
-        Verdict::BadPeakHours => 5,
-        Verdict::BadContents { word: _ } => 6,
-        Verdict::BadBodyHead { word: _ } => 7,
-        Verdict::BadCoordinator { place: _ } => 8,
-        Verdict::OutOfRange { place: _ } => 9,
-        Verdict::RunningDemandTooLarge { place: _ } => 10,
-        Verdict::PriceWithoutQuantity { place: _ } => 11,
-        Verdict::AmountWithoutDemand { place: _ } => 12,
-        Verdict::RoomTooShort { needed: _ } => 13,
-        Verdict::BadRecord => 14,
-        Verdict::AmountBeyondRange => 15,
-        Verdict::TooFewIntervals { place: _ } => 16,
-        Verdict::DayNotAfter => 18,
-        Verdict::TooManyAreas => 19,
-        Verdict::BadBook { word: _ } => 20,
-        Verdict::DaysDoNotFit => 21,
-        Verdict::DateThereOrAbsent => 22,
-        Verdict::BadBasis => 23,
-        Verdict::PaymentRoomTooShort { needed: _ } => 24,
+impl Refusal {
+    // The number of the refusal (docs/RULES.md, section 10).
+    pub fn number(self) -> u32
+        ensures { result ≡ refusal_number self }
+    {
+        match self {
+            Refusal::BadLength => 1,
+            Refusal::BadEdition => 2,
+            Refusal::BadAreaCount => 3,
+            Refusal::BadDate => 4,
+            Refusal::BadPeakHours => 5,
+            Refusal::BadContents { word: _ } => 6,
+            Refusal::BadBodyHead { word: _ } => 7,
+            Refusal::BadCoordinator { place: _ } => 8,
+            Refusal::OutOfRange { place: _ } => 9,
+            Refusal::RunningDemandTooLarge { place: _ } => 10,
+            Refusal::PriceWithoutQuantity { place: _ } => 11,
+            Refusal::AmountWithoutDemand { place: _ } => 12,
+            Refusal::RoomTooShort { needed: _ } => 13,
+            Refusal::BadRecord => 14,
+            Refusal::AmountBeyondRange => 15,
+            Refusal::TooFewIntervals { place: _ } => 16,
+            Refusal::DayNotAfter => 18,
+            Refusal::TooManyAreas => 19,
+            Refusal::BadBook { word: _ } => 20,
+            Refusal::DaysDoNotFit => 21,
+            Refusal::DateThereOrAbsent => 22,
+            Refusal::BadBasis => 23,
+            Refusal::PaymentRoomTooShort { needed: _ } => 24,
+        }
+    }
+
+    // The place of the refusal (docs/RULES.md, section 10).
+    pub fn place(self) -> usize
+        ensures { result ≡ refusal_place self }
+    {
+        match self {
+            Refusal::BadContents { word } => word,
+            Refusal::BadBodyHead { word } => word,
+            Refusal::BadCoordinator { place } => place,
+            Refusal::OutOfRange { place } => place,
+            Refusal::RunningDemandTooLarge { place } => place,
+            Refusal::PriceWithoutQuantity { place } => place,
+            Refusal::AmountWithoutDemand { place } => place,
+            Refusal::RoomTooShort { needed } => needed,
+            Refusal::TooFewIntervals { place } => place,
+            Refusal::BadBook { word } => word,
+            Refusal::PaymentRoomTooShort { needed } => needed,
+            Refusal::BadAreaCount => 2,
+            Refusal::BadDate => 1,
+            Refusal::BadPeakHours => 3,
+            Refusal::BadLength => 0,
+            Refusal::BadEdition => 0,
+            Refusal::BadRecord => 0,
+            Refusal::AmountBeyondRange => 0,
+            Refusal::DayNotAfter => 0,
+            Refusal::TooManyAreas => 0,
+            Refusal::DaysDoNotFit => 0,
+            Refusal::DateThereOrAbsent => 0,
+            Refusal::BadBasis => 0,
+        }
     }
 }
 
-// The place of the refusal (docs/RULES.md, section 10).
-pub fn place(verdict: Verdict) -> usize
+// The number of a verdict: 0 where nothing is refused.
+pub fn number(verdict: Result<(), Refusal>) -> u32
+    ensures { result ≡ number_of verdict }
+{
+    match verdict {
+        Ok(()) => 0,
+        Err(refusal) => refusal.number(),
+    }
+}
+
+// The place of a verdict: 0 where nothing is refused.
+pub fn place(verdict: Result<(), Refusal>) -> usize
     ensures { result ≡ place_of verdict }
 {
     match verdict {
-        Verdict::Accepted => 0,
-        Verdict::BadLength => 0,
-        Verdict::BadEdition => 0,
-        Verdict::BadAreaCount => 2,
-        Verdict::BadDate => 1,
-        Verdict::BadPeakHours => 3,
-        Verdict::BadContents { word } => word,
-        Verdict::BadBodyHead { word } => word,
-        Verdict::BadCoordinator { place } => place,
-        Verdict::OutOfRange { place } => place,
-        Verdict::RunningDemandTooLarge { place } => place,
-        Verdict::PriceWithoutQuantity { place } => place,
-        Verdict::AmountWithoutDemand { place } => place,
-        Verdict::RoomTooShort { needed } => needed,
-        Verdict::BadRecord => 0,
-        Verdict::AmountBeyondRange => 0,
-        Verdict::TooFewIntervals { place } => place,
-        Verdict::DayNotAfter => 0,
-        Verdict::TooManyAreas => 0,
-        Verdict::BadBook { word } => word,
-        Verdict::DaysDoNotFit => 0,
-        Verdict::DateThereOrAbsent => 0,
-        Verdict::BadBasis => 0,
-        Verdict::PaymentRoomTooShort { needed } => needed,
+        Ok(()) => 0,
+        Err(refusal) => refusal.place(),
     }
 }
 
 // The answer as one number, from which both can be told. Every place that is coded is below 1,000,000.
-pub fn code(verdict: Verdict) -> u64
+pub fn code(verdict: Result<(), Refusal>) -> u64
     requires { place_of verdict < 1000000 }
     ensures { result ≡ coded verdict }
 {

@@ -3,8 +3,8 @@ use borrow.Author.Tests.{lt-leb, le-leb}
 use mathlib.Core.Path.{◌≡◌, sym, ap, ◌∙◌}
 use native.Mathlib.Omega.{arith}
 use lib.Dec.{leb}
-use Rattle.verdict.specs.declared.Verdict.TheVariants.{Accepted, DaysDoNotFit}
-use Rattle.verdict.specs.Verdict.{number_of}
+use Rattle.verdict.specs.declared.Refusal.TheVariants.{DaysDoNotFit}
+use Rattle.verdict.specs.Verdict.{number_of, Accepted}
 use Rattle.verdict.specs.First.{rule◌else◌then◌}
 use Rattle.verdict.proofs.Accepted.{accepted_alone}
 use Rattle.verdict.proofs.First.{seq_next, seq_stop}

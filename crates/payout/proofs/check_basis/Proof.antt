@@ -4,8 +4,9 @@ use mathlib.Core.Path.{◌≡◌, refl, sym}
 use native.Mathlib.Omega.{arith}
 use borrow.Author.Tests.{eq-eqb, ne_eqb}
 use lib.ListN.{length}
+use Rattle.verdict.specs.Verdict.{Accepted}
 use Rattle.limits.specs.Ranges.{day_hours}
-use Rattle.verdict.specs.declared.Verdict.TheVariants.{Accepted, BadBasis}
+use Rattle.verdict.specs.declared.Refusal.TheVariants.{BadBasis}
 use Rattle.verdict.specs.First.{scan}
 use Rattle.verdict.proofs.First.{loop_stop, loop_next, loop_done}
 use Rattle.payout_rules.specs.PayOut.{hour_basis_rule, basis_rule}

@@ -3,7 +3,7 @@ use Prim.Native.Nat.{◌+◌, ◌*◌}
 use mathlib.Core.Path.{◌≡◌, sym, ap, ◌∙◌}
 use native.Mathlib.Omega.{arith}
 use borrow.Author.Tests.{le-leb, lt-leb}
-use Rattle.verdict.specs.declared.Verdict.TheVariants.{PaymentRoomTooShort}
+use Rattle.verdict.specs.declared.Refusal.TheVariants.{PaymentRoomTooShort}
 use Rattle.verdict.specs.Verdict.{number_of}
 use Rattle.verdict.specs.First.{◌or_else◌}
 use Rattle.verdict.proofs.First.{seq_stop, seq_next, or_first}

@@ -5,8 +5,7 @@ use mathlib.Core.Path.{◌≡◌, sym, ap, ◌∙◌}
 use native.Mathlib.Omega.{arith}
 use lib.ListN.{length, drop}
 use borrow.Author.Tests.{eq-eqb, ne_eqb}
-use Rattle.verdict.specs.declared.Verdict.{Verdict}
-use Rattle.verdict.specs.Verdict.{number_of, coded}
+use Rattle.verdict.specs.Verdict.{number_of, coded, Verdict}
 use Rattle.encoding.specs.Encoding.{encoded}
 use Rattle.contents.specs.File.{areas_of}
 use Rattle.settlement.specs.Settlement.{numbers_needed, statement_to, days_by, own_days}

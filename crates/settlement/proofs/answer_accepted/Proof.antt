@@ -2,7 +2,8 @@ use borrow.Author.Rules.{rules}
 use mathlib.Core.Path.{◌≡◌, ap, ◌∙◌}
 use native.Mathlib.Omega.{arith}
 use borrow.Author.Tests.{le-leb, lt-leb}
-use Rattle.verdict.specs.declared.Verdict.TheVariants.{RoomTooShort}
+use Rattle.verdict.specs.Verdict.{}
+use Rattle.verdict.specs.declared.Refusal.TheVariants.{RoomTooShort}
 use Rattle.settlement.specs.Settlement.{needed_to, numbers_needed, accepted_rule}
 use Rattle.settlement.proofs.answer_accepted.Statement.{statement}
 use Rattle.settlement.proofs.answer_accepted.Tie as tie

@@ -77,6 +77,6 @@ unfoldable pub coded : Verdict → ℕ
 coded verdict = number_of verdict * 1000000 + place_of verdict
 
 -- the verdict of a call that also tells a value where it accepts
-abbrev pub verdict_of : {T : Type 0} → Result T Refusal → Verdict
-verdict_of (Ok _) = Accepted
-verdict_of (Err refusal) = Err refusal
+abbrev pub answer_of : {T : Type 0} → Result T Refusal → Verdict
+answer_of (Ok _) = Accepted
+answer_of (Err refusal) = Err refusal

@@ -76,7 +76,7 @@ place_of (Err refusal) = refusal_place refusal
 unfoldable pub coded : Verdict → ℕ
 coded verdict = number_of verdict * 1000000 + place_of verdict
 
--- the verdict of a call that also tells a value where it accepts
-abbrev pub answer_of : {T : Type 0} → Result T Refusal → Verdict
-answer_of (Ok _) = Accepted
-answer_of (Err refusal) = Err refusal
+-- the verdict in the answer of a call that also tells a value where it accepts
+abbrev pub verdict_in : {T : Type 0} → Result T Refusal → Verdict
+verdict_in (Ok _) = Accepted
+verdict_in (Err refusal) = Err refusal

@@ -2,25 +2,18 @@
 // Most hours are accepted: an hour is judged without a branch first, and word by word only where it is not accepted.
 #![tactic(auto)]
 
-ghost use Rattle.std.specs.Prelude.{◌≡◌, ℕ, ◌+◌, ◌*◌, ◌<◌, ◌≤◌, not, ◌&&◌, ◌||◌, leb, length, if◌then◌else◌, ◌==◌, nat_le, unsigned_abs};
+ghost use Rattle.std.specs.Prelude.{◌≡◌, ℕ, ◌+◌, ◌*◌, ◌<◌, ◌≤◌, not, ◌&&◌, ◌||◌, leb, length, if◌then◌else◌, ◌==◌, nat_le, unsigned_abs, IfOk};
 ghost use Rattle.exact.specs.Total.{total};
 ghost use Rattle.words.specs.Word.{signed_of};
 ghost use Rattle.words.specs.Bytes.{words_from};
 ghost use Rattle.limits.specs.Ranges.{most_market_price, most_demand, least_present, proved_points, proved_intervals};
-ghost use Rattle.verdict.specs.Verdict.{number_of};
+ghost use Rattle.verdict.specs.Verdict.{verdict_in};
 ghost use Rattle.hour.specs.Layout.{hour_words, missing};
 ghost use Rattle.hour.specs.Gathered.{Gathered, GatheredFrom};
 ghost use Rattle.hour.specs.Plain.{plain_hour};
 ghost use Rattle.hour.specs.Check.{range_rule, pair_rule, demand_rule, deficiencies_rule, intervals_rule, demands_rule, numbers_rule, hour_rule};
 
 use verdict::Refusal;
-
-// What is told of an hour: the first word that breaks its rule, and whether the hour is plain.
-#[derive(Clone, Copy)]
-pub struct Told {
-    pub answer: Verdict,
-    pub plain: bool,
-}
 
 fn range(place: usize, most: u32, number: u32) -> Result<(), Refusal>
     ensures { result ≡ range_rule place most number }
@@ -35,14 +28,12 @@ fn deficiencies(start: usize, body: &[u8], at: usize) -> Result<(), Refusal>
     requires { (start < 4294967296) × (4 * (at + 6) ≤ length body.now) }
     ensures { result ≡ deficiencies_rule start body.now at }
 {
-    let mut i: usize = 0;
-    while i < 6 {
+    for i in 0..6 {
         range(
             start + (at + i),
             limits::MOST_DEFICIENCY,
             words::word(body, at + i),
         )?;
-        i += 1;
     }
     Ok(())
 }
@@ -68,13 +59,11 @@ pub fn intervals(start: usize, body: &[u8], from: usize, count: usize) -> Result
     requires { (start < 4294967296) × (4 * (from + 2 * count) ≤ length body.now) }
     ensures { result ≡ intervals_rule start body.now from count }
 {
-    let mut i: usize = 0;
-    while i < count {
+    for i in 0..count {
         let at = from + 2 * i;
         let quantity = words::word(body, at);
         let price = words::word(body, at + 1);
         pair(start + at, start + (at + 1), quantity, price)?;
-        i += 1;
     }
     Ok(())
 }
@@ -97,12 +86,10 @@ fn demands(start: usize, body: &[u8], from: usize, count: usize) -> Result<(), R
     ensures { result ≡ demands_rule start body.now from count }
 {
     let mut running: u32 = 0;
-    let mut i: usize = 0;
-    while i < count {
+    for i in 0..count {
         let next = words::word(body, from + i);
         demand(start + (from + i), running, next)?;
         running += next;
-        i += 1;
     }
     Ok(())
 }
@@ -128,20 +115,14 @@ fn numbers(start: usize, body: &[u8], at: usize) -> Result<(), Refusal>
 fn outside(most: u32, number: u32) -> u32
     ensures { result ≡ (if leb number most then 0 else 1) }
 {
-    if most < number {
-        return 1;
-    }
-    0
+    u32::from(most < number)
 }
 
 // 0 for a missing price, 1 for any other.
 pub fn present(price: u32) -> u32
     ensures { result ≡ (if missing price then 0 else 1) }
 {
-    if price == limits::MISSING_PRICE {
-        return 0;
-    }
-    1
+    u32::from(price != limits::MISSING_PRICE)
 }
 
 // 1 for an interval price out of range; a missing one is not. So much higher as the lowest price is below 0, the prices in range are the words up to twice as much.
@@ -167,10 +148,8 @@ fn deficiencies_gathered(body: &[u8], at: usize) -> u32
     ensures { (start : ℕ) → Gathered (deficiencies_rule start body.now at) result }
 {
     let mut gathered: u32 = 0;
-    let mut i: usize = 0;
-    while i < 6 {
+    for i in 0..6 {
         gathered = gathered | outside(limits::MOST_DEFICIENCY, words::word(body, at + i));
-        i += 1;
     }
     gathered
 }
@@ -202,15 +181,13 @@ fn intervals_gathered(body: &[u8], from: usize, count: usize) -> Gathering
     let mut gathered: u32 = 0;
     let mut priced: u32 = 0;
     let mut quantities: u32 = 0;
-    let mut i: usize = 0;
-    while i < count {
+    for i in 0..count {
         let at = from + 2 * i;
         let quantity = words::word(body, at);
         let price = words::word(body, at + 1);
         gathered = gathered | (outside(limits::MOST_QUANTITY, quantity) | price_outside(price));
         priced += present(price);
         quantities = quantities | counted(quantity, price);
-        i += 1;
     }
     Gathering {
         outside: gathered,
@@ -225,10 +202,8 @@ pub fn demand_sum(body: &[u8], from: usize, count: usize) -> u64
     ensures { result ≡ total (words_from body.now from count) }
 {
     let mut sum: u64 = 0;
-    let mut i: usize = 0;
-    while i < count {
+    for i in 0..count {
         sum += words::word(body, from + i) as u64;
-        i += 1;
     }
     sum
 }
@@ -238,17 +213,19 @@ fn plain(kind: u32, load: usize, intervals: Gathering, demand: u64) -> bool
     requires { load ≤ proved_points }
     ensures { result ≡ (nat_le (least_present * load) intervals.present && not (intervals.quantities == 0) && nat_le kind demand) }
 {
-    if (intervals.present as usize) < limits::LEAST_PRESENT * load {
-        return false;
-    }
-    if intervals.quantities == 0 {
-        return false;
-    }
-    kind as u64 <= demand
+    limits::LEAST_PRESENT * load <= intervals.present as usize
+        && intervals.quantities != 0
+        && kind as u64 <= demand
 }
 
 // The first word that breaks its rule, word by word.
-fn first_broken(start: usize, body: &[u8], load: usize, count: usize, at: usize) -> Result<(), Refusal>
+fn first_broken(
+    start: usize,
+    body: &[u8],
+    load: usize,
+    count: usize,
+    at: usize,
+) -> Result<(), Refusal>
     requires { (start < 4294967296) × ((count < 4294967296) × (4 * (at + hour_words load count) ≤ length body.now)) }
     ensures { result ≡ hour_rule start body.now load count at }
 {
@@ -261,29 +238,28 @@ fn first_broken(start: usize, body: &[u8], load: usize, count: usize, at: usize)
 pub fn accepted(gathered: u32, demand: u64) -> bool
     ensures { result ≡ (gathered == 0 && nat_le demand most_demand) }
 {
-    if gathered != 0 {
-        return false;
-    }
-    demand <= limits::MOST_DEMAND as u64
+    gathered == 0 && demand <= limits::MOST_DEMAND as u64
 }
 
-// The hour that starts at word `at`, of an area of that kind whose body starts at word `start` of the file.
-pub fn check(start: usize, kind: u32, body: &[u8], load: usize, count: usize, at: usize) -> Told
+// The hour that starts at word `at`, of an area of that kind whose body starts at word `start` of the file: the first word that breaks its rule, or whether the
+// hour is plain.
+pub fn check(
+    start: usize,
+    kind: u32,
+    body: &[u8],
+    load: usize,
+    count: usize,
+    at: usize,
+) -> Result<bool, Refusal>
     requires { (load ≤ proved_points) × ((start < 4294967296) × ((count < 4294967296) × (4 * (at + hour_words load count) ≤ length body.now))) }
-    ensures answer_value { result.answer ≡ hour_rule start body.now load count at }
-    ensures plain_value { result.plain ≡ (number_of result.answer == 0 && plain_hour body.now kind load count at) }
+    ensures answer_value { verdict_in result ≡ hour_rule start body.now load count at }
+    ensures plain_value { IfOk result (λ plain. plain ≡ plain_hour body.now kind load count at) }
 {
     let numbers = numbers_gathered(body, at);
     let intervals = intervals_gathered(body, at + 8, 12 * load);
     let demand = demand_sum(body, at + 8 + 24 * load, count);
     if !accepted(numbers | intervals.outside, demand) {
-        return Told {
-            answer: first_broken(start, body, load, count, at),
-            plain: false,
-        };
+        first_broken(start, body, load, count, at)?;
     }
-    Told {
-        answer: Verdict::Accepted,
-        plain: plain(kind, load, intervals, demand),
-    }
+    Ok(plain(kind, load, intervals, demand))
 }

@@ -9,9 +9,9 @@ use native.Mathlib.Numerals.{add-one}
 use native.Mathlib.Nat.{add-zero, sub-zero, zero-add}
 use lib.Dec.{eqb}
 use borrow.Author.Tests.{eq-eqb, ne_eqb, eqb-true, eqb-false}
-use Rattle.std.specs.Prelude.{Ok, Err, ⊤}
+use Rattle.std.specs.Prelude.{Result, Ok, Err, ⊤, IsErrAnd}
 use Rattle.verdict.specs.declared.Refusal.{Refusal}
-use Rattle.verdict.specs.Verdict.{Verdict, Accepted, number_of, refusal_number}
+use Rattle.verdict.specs.Verdict.{Verdict, Accepted, number_of, refusal_number, verdict_in}
 use Rattle.verdict.specs.First.{rule◌else◌then◌, ◌or_else◌, scan}
 use Rattle.verdict.proofs.Accepted.{no_refusal_is_zero, accepted_alone}
 
@@ -166,3 +166,14 @@ seq_stop whole first second refusal w is = sym (w ∙ ap (λ v. v or_else second
 
 pub seq_next : (whole first second : Verdict) (nothing : ⊤) → whole ≡ (first or_else second) → first ≡ Ok nothing → whole ≡ second
 seq_next whole first second nothing w is = w ∙ or_next _ _ (ap number_of is)
+
+-- ---- what a `?` hands on: the refusal of its call, as it is
+
+pub handed_on : (answer whole : Verdict) (refusal : Refusal) → IsErrAnd answer (λ e. e ≡ refusal) → Err refusal ≡ whole → answer ≡ whole
+handed_on (Ok _) whole refusal h e = absurd h
+handed_on (Err other) whole refusal h e = ap Err h ∙ e
+
+pub handed_on_in : {T : Type 0} (answer : Result T Refusal) (whole : Verdict) (refusal : Refusal) → IsErrAnd answer (λ e. e ≡ refusal)
+    → Err refusal ≡ whole → verdict_in answer ≡ whole
+handed_on_in (Ok _) whole refusal h e = absurd h
+handed_on_in (Err other) whole refusal h e = ap Err h ∙ e

@@ -99,12 +99,10 @@ fn coordinators(start: usize, body: &[u8], count: usize) -> Result<(), Refusal>
     ensures { result ≡ coordinators_rule start body.now count }
 {
     let mut before: u32 = 0;
-    let mut i: usize = 0;
-    while i < count {
+    for i in 0..count {
         let number = words::word(body, 7 + i);
         coordinator(start + (7 + i), before, number)?;
         before = number;
-        i += 1;
     }
     Ok(())
 }
@@ -150,13 +148,11 @@ fn glance_hours(kind: u32, body: &[u8], load: usize, count: usize) -> Reached
     ensures { Behind body.now kind load count result.hour result.at }
 {
     let mut at = first_hour(load, count);
-    let mut h: usize = 0;
-    while h < limits::DAY_HOURS {
+    for h in 0..limits::DAY_HOURS {
         if !hour_glance::glance(kind, body, load, count, at) {
             return Reached { hour: h, at };
         }
         at = next_hour(load, count, h, at);
-        h += 1;
     }
     Reached { hour: h, at }
 }
@@ -177,8 +173,7 @@ fn hours_from(
 {
     let mut plain = true;
     let mut at = first.at;
-    let mut h = first.hour;
-    while h < limits::DAY_HOURS {
+    for h in first.hour..limits::DAY_HOURS {
         let seen = hour::check(start, kind, body, load, count, at);
         let answer = seen.answer;
         if verdict::number(answer) != 0 {
@@ -186,7 +181,6 @@ fn hours_from(
         }
         plain = plain & seen.plain;
         at = next_hour(load, count, h, at);
-        h += 1;
     }
     Told {
         answer: Verdict::Accepted,

@@ -27,14 +27,12 @@ fn intervals_joined(body: &[u8], from: usize, count: usize) -> Joined
 {
     let mut quantities: u32 = 0;
     let mut prices: u32 = 0;
-    let mut i: usize = 0;
-    while i < count {
+    for i in 0..count {
         let at = from + 2 * i;
         let quantity = words::word(body, at);
         let price = words::word(body, at + 1);
         quantities = quantities | quantity;
         prices = prices | std::num::wrapping_add_u32(price, RAISE);
-        i += 1;
     }
     Joined { quantities, prices }
 }
@@ -43,13 +41,7 @@ fn intervals_joined(body: &[u8], from: usize, count: usize) -> Joined
 fn usual(joined: Joined) -> bool
     ensures { result ≡ (not (joined.quantities == 0) && nat_lt joined.quantities small && nat_lt joined.prices near) }
 {
-    if joined.quantities == 0 {
-        return false;
-    }
-    if SMALL <= joined.quantities {
-        return false;
-    }
-    joined.prices < NEAR
+    joined.quantities != 0 && joined.quantities < SMALL && joined.prices < NEAR
 }
 
 // Whether the hour that starts at word `at` is seen to be accepted and plain. Another may be both too: where a price is missing a glance tells nothing.
@@ -60,11 +52,5 @@ pub fn glance(kind: u32, body: &[u8], load: usize, count: usize, at: usize) -> b
     let numbers = hour::numbers_gathered(body, at);
     let joined = intervals_joined(body, at + 8, 12 * load);
     let demand = hour::demand_sum(body, at + 8 + 24 * load, count);
-    if !hour::accepted(numbers, demand) {
-        return false;
-    }
-    if !usual(joined) {
-        return false;
-    }
-    kind as u64 <= demand
+    hour::accepted(numbers, demand) && usual(joined) && kind as u64 <= demand
 }

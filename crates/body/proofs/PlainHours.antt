@@ -1,14 +1,11 @@
 -- Hours that are accepted and plain: the walk goes on behind them.
-use Prim.Native.Nat.{ℕ, zero, suc, ◌-◌, ◌≤◌, ◌<◌}
-use mathlib.Core.Bool.{Bool, true, false, ◌&&◌}
+use Prim.Native.Nat.{ℕ, zero, suc, ◌-◌, ◌<◌}
+use mathlib.Core.Bool.{true}
 use mathlib.Core.List.{List}
-use mathlib.Core.Path.{◌≡◌, refl, ◌∙◌}
+use mathlib.Core.Path.{◌≡◌, refl}
 use native.Mathlib.Omega.{arith}
-use lib.Dec.{eqb}
 use borrow.Author.Count.{below_more}
-use borrow.Author.Tests.{ne_eqb}
 use Rattle.limits.specs.Ranges.{day_hours}
-use Rattle.verdict.specs.Verdict.{number_of, Verdict}
 use Rattle.verdict.specs.First.{scan}
 use Rattle.verdict.proofs.First.{both, scan_past}
 use Rattle.hour.specs.Plain.{plain_hour}
@@ -16,12 +13,6 @@ use Rattle.hour_glance.specs.Told.{AcceptedPlain}
 use Rattle.body.specs.Layout.{hour_start}
 use Rattle.body.specs.Check.{hour_rule_at, hours_rule}
 use Rattle.body.specs.Plain.{plain_hours, Behind}
-
--- a refusal tells that nothing is plain
-pub refused_not_plain : (answer told : Verdict) (plain area : Bool) (number : ℕ) → (told ≡ answer) × (plain ≡ false) → number ≡ number_of answer
-    → (number ≡ 0 → ⊥) → plain ≡ (eqb (number_of told) 0 && area)
-refused_not_plain answer told plain area number is e never =
-    is.1 ∙ rw (is.0, ne_eqb (number_of answer) 0 (λ q. never (e ∙ q))) refl
 
 module _ (body : List ℕ) (kind load count : ℕ) where
   plain-so-far : (n : ℕ) → ((h : ℕ) → h < n → AcceptedPlain body kind load count (hour_start load count h)) → plain_hours body kind load count n ≡ true

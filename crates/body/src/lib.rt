@@ -1,8 +1,8 @@
-// The check of one area's body: its head, its coordinators and its 24 hours, word by word, the first that breaks its rule, and whether the area is plain.
+// The check of one area's body: its head, its coordinators and its 24 hours, word by word, the first that breaks its rule, or whether the area is plain.
 #![tactic(auto)]
 
-ghost use Rattle.std.specs.Prelude.{false, ◌&&◌, ◌≡◌, ◌+◌, ◌*◌, ◌/◌, ◌≤◌, ◌<◌, ◌^◌, eqb, length};
-ghost use Rattle.verdict.specs.Verdict.{number_of};
+ghost use Rattle.std.specs.Prelude.{◌≡◌, ◌+◌, ◌*◌, ◌≤◌, ◌<◌, ◌^◌, length, IfOk};
+ghost use Rattle.verdict.specs.Verdict.{verdict_in};
 ghost use Rattle.limits.specs.Ranges.{day_hours, proved_points};
 ghost use Rattle.hour.specs.Layout.{hour_words};
 ghost use Rattle.body.specs.Layout.{body_words, hour_start};
@@ -10,11 +10,11 @@ ghost use Rattle.body.specs.Check.{body_head_rule, most_of_kind, coordinator_cou
 ghost use Rattle.body.specs.Check.{front_rule, body_rule};
 ghost use Rattle.body.specs.Plain.{plain_hours, plain_area, Behind};
 
-use hour::Told;
 use limits::Limits;
 use verdict::Refusal;
 
 // The first six words of the head, the hub prices A and B by their magnitude.
+#[tactic(auto, unfolding(crate::specs::Check::body_head_rule))]
 fn head_words(
     points: u32,
     ciso: u32,
@@ -66,6 +66,7 @@ fn most_of_kind(kind: u32) -> usize
 }
 
 // The word of K.
+#[tactic(auto, unfolding(crate::specs::Check::coordinator_count_rule))]
 fn count(start: usize, size: usize, most: usize, load: usize, count: usize) -> Result<(), Refusal>
     requires { (start < 4294967296) × ((load < 4294967296) × (count < 4294967296)) }
     ensures { result ≡ coordinator_count_rule start size most load count }
@@ -125,16 +126,6 @@ pub fn next_hour(load: usize, count: usize, h: usize, at: usize) -> usize
     at + (8 + 24 * load + count)
 }
 
-// A body of which a word breaks its rule.
-fn refused(answer: Verdict) -> Told
-    ensures { (result.answer ≡ answer) × (result.plain ≡ false) }
-{
-    Told {
-        answer,
-        plain: false,
-    }
-}
-
 // An hour, and where it starts.
 #[derive(Clone, Copy)]
 struct Reached {
@@ -154,10 +145,13 @@ fn glance_hours(kind: u32, body: &[u8], load: usize, count: usize) -> Reached
         }
         at = next_hour(load, count, h, at);
     }
-    Reached { hour: h, at }
+    Reached {
+        hour: limits::DAY_HOURS,
+        at,
+    }
 }
 
-// The hours from that one on.
+// The hours from that one on: the first word that breaks its rule, or whether all are plain.
 fn hours_from(
     first: Reached,
     start: usize,
@@ -165,29 +159,23 @@ fn hours_from(
     body: &[u8],
     load: usize,
     count: usize,
-) -> Told
+) -> Result<bool, Refusal>
     requires behind { Behind body.now kind load count first.hour first.at }
     requires sizes { (load ≤ proved_points) × ((start < 4294967296) × ((count < 4294967296) × (4 * body_words load count ≤ length body.now))) }
-    ensures answer_value { result.answer ≡ hours_rule start body.now load count }
-    ensures plain_value { result.plain ≡ (eqb (number_of result.answer) 0 && plain_hours body.now kind load count day_hours) }
+    ensures answer_value { verdict_in result ≡ hours_rule start body.now load count }
+    ensures plain_value { IfOk result (λ plain. plain ≡ plain_hours body.now kind load count day_hours) }
 {
     let mut plain = true;
     let mut at = first.at;
     for h in first.hour..limits::DAY_HOURS {
-        let seen = hour::check(start, kind, body, load, count, at);
-        let answer = seen.answer;
-        if verdict::number(answer) != 0 {
-            return refused(answer);
-        }
-        plain = plain & seen.plain;
+        let seen = hour::check(start, kind, body, load, count, at)?;
+        plain = plain & seen;
         at = next_hour(load, count, h, at);
     }
-    Told {
-        answer: Verdict::Accepted,
-        plain,
-    }
+    Ok(plain)
 }
 
+#[tactic(auto, unfolding(crate::specs::Check::body_head_of))]
 fn head(points: u32, ciso: u32, start: usize, body: &[u8]) -> Result<(), Refusal>
     requires { (ciso ≤ 1) × ((start < 4294967296) × (28 ≤ length body.now)) }
     ensures { result ≡ body_head_of start body.now points ciso }
@@ -213,23 +201,17 @@ fn front(points: u32, ciso: u32, start: usize, body: &[u8]) -> Result<(), Refusa
     count(start, body.len() / 4, most, load, k)
 }
 
-// The first word of a body that breaks its rule, and whether the area is plain. `ciso` CISO areas stand before this one in the file.
-pub fn check(limits: Limits, ciso: u32, start: usize, body: &[u8]) -> Told
+// The first word of a body that breaks its rule, or whether the area is plain. `ciso` CISO areas stand before this one in the file.
+pub fn check(limits: Limits, ciso: u32, start: usize, body: &[u8]) -> Result<bool, Refusal>
     requires { (limits.points ≤ proved_points) × ((ciso ≤ 1) × ((start < 4294967296) × (28 ≤ length body.now))) }
-    ensures answer_value { result.answer ≡ body_rule start body.now limits ciso }
-    ensures plain_value { result.plain ≡ (eqb (number_of result.answer) 0 && plain_area body.now) }
+    ensures answer_value { verdict_in result ≡ body_rule start body.now limits ciso }
+    ensures plain_value { IfOk result (λ plain. plain ≡ plain_area body.now) }
 {
-    let first = front(limits.points, ciso, start, body);
-    if verdict::number(first) != 0 {
-        return refused(first);
-    }
+    front(limits.points, ciso, start, body)?;
     let kind = words::word(body, 0);
     let load = words::word(body, 5) as usize;
     let k = words::word(body, 6) as usize;
-    let second = coordinators(start, body, k);
-    if verdict::number(second) != 0 {
-        return refused(second);
-    }
+    coordinators(start, body, k)?;
     let reached = glance_hours(kind, body, load, k);
     hours_from(reached, start, kind, body, load, k)
 }

@@ -3,7 +3,7 @@ use Prim.Native.Nat.{ℕ, ◌+◌, ◌*◌, ◌/◌, ◌%◌, ◌≤◌, ◌<◌
 use mathlib.Core.Bool.{Bool, true, false, ◌&&◌, ◌||◌}
 use mathlib.Core.List.{List}
 use mathlib.Core.Logic.{◌⊎◌, inl, inr, ⊎_elim}
-use mathlib.Core.Path.{◌≡◌, sym, ap, ◌∙◌}
+use mathlib.Core.Path.{◌≡◌}
 use native.Mathlib.Omega.{arith}
 use lib.Dec.{leb, eqb}
 use lib.ListN.{length}
@@ -14,8 +14,7 @@ use Rattle.limits.specs.Ranges.{peak_word}
 use Rattle.limits.specs.Editions.{limits_of, edition_known, KnownEdition, bytes_allowed, WithinBytes}
 use Rattle.limits.proofs.Editions.{bytes_within}
 use Rattle.calendar.specs.Date.{real_date}
-use Rattle.verdict.specs.declared.Refusal.TheVariants.{BadLength}
-use Rattle.verdict.specs.Verdict.{number_of, Verdict}
+use Rattle.verdict.specs.Verdict.{number_of}
 use Rattle.verdict.specs.First.{◌or_else◌}
 use Rattle.verdict.proofs.First.{kept, both, or_first, or_second, scan_each}
 use Rattle.exact.proofs.Lending.{part_length}
@@ -108,7 +107,3 @@ module _ (limits : Limits) (file : List ℕ) (accepted : number_of (check_within
     -- a body has the bytes that its entry says
     pub body_length : length (body_at file k) ≡ 4 * size_at file k
     body_length = part_length file (4 * start_at file k) (4 * size_at file k) (omega (arith, file_entry.inside))
-
--- a file refused for its length is not accepted
-pub not_accepted : {told : Verdict} → told ≡ BadLength → number_of told ≡ 0 → ⊥
-not_accepted e z = let one : number_of BadLength ≡ 0 = ap number_of (sym e) ∙ z in omega arith

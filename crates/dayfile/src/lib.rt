@@ -1,9 +1,9 @@
-// The day file: the check of all its words, with which of its areas are plain, and the lookup of an area's body.
+// The day file: the check of all its words, which tells which of its areas are plain, and the lookup of an area's body.
 #![tactic(auto)]
 
-ghost use Rattle.std.specs.Prelude.{◌≡◌, ◌+◌, ◌*◌, ◌≤◌, ◌<◌, ◌^◌, length};
+ghost use Rattle.std.specs.Prelude.{◌≡◌, ◌+◌, ◌*◌, ◌≤◌, ◌<◌, ◌^◌, length, IfOk};
 ghost use Rattle.words.specs.Word.{word_at};
-ghost use Rattle.verdict.specs.Verdict.{number_of};
+ghost use Rattle.verdict.specs.Verdict.{number_of, verdict_in};
 ghost use Rattle.limits.specs.Ranges.{proved_areas};
 ghost use Rattle.limits.specs.Editions.{Proved};
 ghost use Rattle.contents.specs.File.{areas_of};
@@ -15,15 +15,16 @@ ghost use Rattle.dayfile.specs.Lookup.{part_from, lookup_of};
 use limits::Limits;
 use verdict::Refusal;
 
-// What is told of a day file: the first word that breaks its rule and, where none does, which of its areas are plain.
-#[derive(Clone, Copy)]
-pub struct Told {
-    pub answer: Verdict,
-    pub plain: [bool; limits::PROVED_AREAS],
-}
-
 // The four head words, in a file of `size` words.
-fn head_words(areas: u32, size: usize, edition: u32, day: u32, n: u32, peak: u32) -> Result<(), Refusal>
+#[tactic(auto, unfolding(crate::specs::Check::file_head_rule))]
+fn head_words(
+    areas: u32,
+    size: usize,
+    edition: u32,
+    day: u32,
+    n: u32,
+    peak: u32,
+) -> Result<(), Refusal>
     ensures { result ≡ file_head_rule areas size edition day n peak }
 {
     if edition != 1 {
@@ -41,16 +42,14 @@ fn head_words(areas: u32, size: usize, edition: u32, day: u32, n: u32, peak: u32
     if size < 4 + 3 * (n as usize) {
         return Err(Refusal::BadAreaCount);
     }
-    if peak == 0 {
-        return Ok(());
+    if peak != 0 && peak != limits::PEAK_WORD {
+        return Err(Refusal::BadPeakHours);
     }
-    if peak == limits::PEAK_WORD {
-        return Ok(());
-    }
-    Verdict::BadPeakHours
+    Ok(())
 }
 
 // The head words of a file, at most `areas` areas.
+#[tactic(auto, unfolding(crate::specs::Check::file_head_of))]
 fn head(areas: u32, file: &[u8]) -> Result<(), Refusal>
     requires { 16 ≤ length file.now }
     ensures { result ≡ file_head_of areas file.now }
@@ -93,13 +92,10 @@ fn entry(
     if most < words {
         return Err(Refusal::BadContents { word: at + 2 });
     }
-    if k + 1 == n {
-        if start + words == size {
-            return Ok(());
-        }
+    if size < start + words {
         return Err(Refusal::BadContents { word: at + 2 });
     }
-    if size < start + words {
+    if k + 1 == n && start + words != size {
         return Err(Refusal::BadContents { word: at + 2 });
     }
     Ok(())
@@ -113,8 +109,7 @@ fn contents(most: usize, file: &[u8], n: usize) -> Result<(), Refusal>
     let size = file.len() / 4;
     let mut before: u32 = 0;
     let mut due = 4 + 3 * n;
-    let mut k: usize = 0;
-    while k < n {
+    for k in 0..n {
         let at = 4 + 3 * k;
         let number = words::word(file, at);
         let start = words::word(file, at + 1) as usize;
@@ -122,80 +117,54 @@ fn contents(most: usize, file: &[u8], n: usize) -> Result<(), Refusal>
         entry(most, size, n, k, at, before, due, number, start, words)?;
         before = number;
         due = start + words;
-        k += 1;
     }
     Ok(())
 }
 
-// A file of which a word breaks its rule.
-fn refused(answer: Verdict) -> Told
-    ensures { result.answer ≡ answer }
-{
-    Told {
-        answer,
-        plain: [false; limits::PROVED_AREAS],
-    }
-}
-
 // The bodies of n entries whose contents are accepted, each handed on as its part of the file.
-fn bodies(limits: Limits, file: &[u8], n: usize) -> Told
+fn bodies(limits: Limits, file: &[u8], n: usize) -> Result<[bool; limits::PROVED_AREAS], Refusal>
     requires proved { (Proved limits) × (n ≤ proved_areas) }
     requires contents_accepted { (1 ≤ n) × ((16 + 12 * n ≤ length file.now) × (number_of (contents_rule limits.words file.now n) ≡ 0)) }
-    ensures answer_value { result.answer ≡ bodies_rule limits file.now n }
-    ensures plain_told { number_of result.answer ≡ 0 → PlainTold result.plain file.now n }
+    ensures answer_value { verdict_in result ≡ bodies_rule limits file.now n }
+    ensures plain_told { IfOk result (λ plain. PlainTold plain file.now n) }
 {
     let mut plain = [false; limits::PROVED_AREAS];
     let mut ciso: u32 = 0;
-    let mut area: usize = 0;
-    while area < n {
+    for area in 0..n {
         let start = words::word(file, 4 + 3 * area + 1) as usize;
         let body = contents::body_at(file, area);
-        let told = body::check(limits, ciso, start, body);
-        let answer = told.answer;
-        if verdict::number(answer) != 0 {
-            return refused(answer);
-        }
-        plain[area] = told.plain;
+        let told = body::check(limits, ciso, start, body)?;
+        plain[area] = told;
         ciso += words::word(body, 0);
-        area += 1;
     }
-    Told {
-        answer: Verdict::Accepted,
-        plain,
-    }
+    Ok(plain)
 }
 
 // The check of a file of 16 bytes or more within given limits.
-fn check_within(limits: Limits, file: &[u8]) -> Told
+fn check_within(limits: Limits, file: &[u8]) -> Result<[bool; limits::PROVED_AREAS], Refusal>
     requires { (Proved limits) × (16 ≤ length file.now) }
-    ensures answer_value { result.answer ≡ check_within limits file.now }
-    ensures plain_told { number_of result.answer ≡ 0 → PlainTold result.plain file.now (areas_of file.now) }
+    ensures answer_value { verdict_in result ≡ check_within limits file.now }
+    ensures plain_told { IfOk result (λ plain. PlainTold plain file.now (areas_of file.now)) }
 {
     if !limits::allows(limits, file.len()) {
-        return refused(Verdict::BadLength);
+        return Err(Refusal::BadLength);
     }
     if file.len() % 4 != 0 {
-        return refused(Verdict::BadLength);
+        return Err(Refusal::BadLength);
     }
-    let first = head(limits.areas, file);
-    if verdict::number(first) != 0 {
-        return refused(first);
-    }
+    head(limits.areas, file)?;
     let n = words::word(file, 2) as usize;
-    let second = contents(limits.words as usize, file, n);
-    if verdict::number(second) != 0 {
-        return refused(second);
-    }
+    contents(limits.words as usize, file, n)?;
     bodies(limits, file, n)
 }
 
-// The first word of a day file that breaks its rule, and which of its areas are plain. The file's first word sets the limits.
-pub fn checked(file: &[u8]) -> Told
-    ensures answer_value { result.answer ≡ check_of file.now }
-    ensures plain_told { number_of result.answer ≡ 0 → PlainTold result.plain file.now (areas_of file.now) }
+// The first word of a day file that breaks its rule, or which of its areas are plain. The file's first word sets the limits.
+pub fn checked(file: &[u8]) -> Result<[bool; limits::PROVED_AREAS], Refusal>
+    ensures answer_value { verdict_in result ≡ check_of file.now }
+    ensures plain_told { IfOk result (λ plain. PlainTold plain file.now (areas_of file.now)) }
 {
     if file.len() < 16 {
-        return refused(Verdict::BadLength);
+        return Err(Refusal::BadLength);
     }
     check_within(limits::limits_of(words::word(file, 0)), file)
 }
@@ -204,8 +173,8 @@ pub fn checked(file: &[u8]) -> Told
 pub fn check(file: &[u8]) -> Result<(), Refusal>
     ensures { result ≡ check_of file.now }
 {
-    let told = checked(file);
-    told.answer
+    checked(file)?;
+    Ok(())
 }
 
 // The body of an area in an accepted file.
@@ -214,12 +183,10 @@ fn find(file: &[u8], area: u32) -> &[u8]
     ensures { HandsBack file.entry (part_from file.now area 0 (word_at file.now 2)) result }
 {
     let n = words::word(file, 2) as usize;
-    let mut k: usize = 0;
-    while k < n {
+    for k in 0..n {
         if words::word(file, 4 + 3 * k) == area {
             return contents::body_at(file, k);
         }
-        k += 1;
     }
     &file[..0]
 }
@@ -228,8 +195,7 @@ fn find(file: &[u8], area: u32) -> &[u8]
 pub fn body_of(file: &[u8], area: u32) -> &[u8]
     ensures { HandsBack file.entry (lookup_of file.now area) result }
 {
-    let v = check(file);
-    if verdict::number(v) != 0 {
+    if check(file).is_err() {
         return &file[..0];
     }
     find(file, area)

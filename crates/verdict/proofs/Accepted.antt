@@ -1,7 +1,7 @@
 -- No refusal has number 0: a verdict of number 0 is an acceptance, and has place 0.
 use mathlib.Core.Path.{◌≡◌, refl, ap}
 use native.Mathlib.Omega.{arith}
-use Rattle.std.specs.Prelude.{Ok, Err}
+use Rattle.std.specs.Prelude.{true, false, Ok, Err, is_err}
 use Rattle.verdict.specs.declared.Refusal.{Refusal}
 use Rattle.verdict.specs.declared.Refusal.TheVariants.{BadLength, BadEdition, BadAreaCount, BadDate, BadPeakHours, BadContents}
 use Rattle.verdict.specs.declared.Refusal.TheVariants.{BadBodyHead, BadCoordinator, OutOfRange, RunningDemandTooLarge, PriceWithoutQuantity}
@@ -41,3 +41,12 @@ accepted_alone (Err refusal) z = absurd (no_refusal_is_zero refusal z)
 
 pub accepted_place : (verdict : Verdict) → number_of verdict ≡ 0 → place_of verdict ≡ 0
 accepted_place verdict z = ap place_of (accepted_alone verdict z)
+
+-- what the code asks of a verdict
+pub refuses : (verdict : Verdict) → is_err verdict ≡ true → number_of verdict ≡ 0 → ⊥
+refuses (Ok _) e z = cc
+refuses (Err refusal) e z = no_refusal_is_zero refusal z
+
+pub accepts : (verdict : Verdict) → is_err verdict ≡ false → number_of verdict ≡ 0
+accepts (Ok _) e = refl
+accepts (Err refusal) e = cc

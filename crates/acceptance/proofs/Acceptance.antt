@@ -14,6 +14,7 @@ use Rattle.words.specs.Word.{word_at}
 use Rattle.limits.specs.declared.Limits.{Limits}
 use Rattle.limits.specs.Editions.{limits_of, bytes_allowed}
 use Rattle.limits.proofs.Editions.{bytes_within, bytes_test}
+use Rattle.std.specs.Prelude.{Err}
 use Rattle.verdict.specs.declared.Refusal.TheVariants.{BadLength}
 use Rattle.verdict.specs.Verdict.{number_of, place_of, Verdict}
 use Rattle.verdict.specs.First.{◌or_else◌}
@@ -55,7 +56,7 @@ module _ (limits : Limits) (file : List ℕ) where
   unfolding check_within
   opened h = rw h
 
-  shut : length_test ≡ false → check_within limits file ≡ BadLength
+  shut : length_test ≡ false → check_within limits file ≡ Err BadLength
   unfolding check_within
   shut h = rw h
 
@@ -92,11 +93,11 @@ module _ (limits : Limits) (file : List ℕ) where
       let one : number_of words ≡ 1 = rw (opened t) at y in
       omega (arith, (judged t).number (λ z. omega arith))
 
-  shut_by : (t : Bool) → length_test ≡ t → (LengthKept limits file → ⊥) → check_within limits file ≡ BadLength
+  shut_by : (t : Bool) → length_test ≡ t → (LengthKept limits file → ⊥) → check_within limits file ≡ Err BadLength
   shut_by true e n = absurd (n (length_kept e))
   shut_by false e n = shut e
 
-  length-broken : (LengthKept limits file → ⊥) → check_within limits file ≡ BadLength
+  length-broken : (LengthKept limits file → ⊥) → check_within limits file ≡ Err BadLength
   length-broken n = shut_by length_test refl n
 
   -- a word's refusal has the number of its kind of word

@@ -7,9 +7,11 @@ use native.Mathlib.Decide.{dec_lt}
 use native.Mathlib.Omega.{arith}
 use lib.Dec.{eqb, leb}
 use borrow.Author.Tests.{eqb-true, eqb-false, leb-true, le-leb}
-use Rattle.verdict.specs.Verdict.{number_of, place_of, Accepted, Verdict}
+use Rattle.verdict.specs.declared.Refusal.{Refusal}
+use Rattle.verdict.specs.Verdict.{refusal_number, refusal_place, number_of, place_of, Accepted, Verdict}
+use Rattle.verdict.proofs.Accepted.{no_refusal_is_zero}
 use Rattle.verdict.specs.First.{rule◌else◌then◌, ◌or_else◌, scan}
-use Rattle.verdict.proofs.First.{seq_stop, seq_next}
+use Rattle.verdict.proofs.First.{or_stop, or_next}
 
 -- ---- the words before p keep their rules, in the ways in which a check is put together
 
@@ -74,10 +76,10 @@ accepted_judged from end =
     }
 
 -- a word's rule, and then the rest
-module _ (refusal rest : Verdict) (from end : ℕ) (Rule : Type 0) (Rest : ℕ → Type 0) (word-rule : 2 ≤ number_of refusal)
-    (behind : place_of refusal ≤ from) (room : place_of refusal < end) (judged : Judged rest from end Rest) where
+module _ (refusal : Refusal) (rest : Verdict) (from end : ℕ) (Rule : Type 0) (Rest : ℕ → Type 0) (word-rule : 2 ≤ refusal_number refusal)
+    (behind : refusal_place refusal ≤ from) (room : refusal_place refusal < end) (judged : Judged rest from end Rest) where
   pub rule_judged : (test : Bool) → (test ≡ true → Rule) → (Rule → test ≡ true)
-      → Judged (rule test else refusal then rest) (place_of refusal) end (Word (place_of refusal) Rule Rest)
+      → Judged (rule test else refusal then rest) (refusal_place refusal) end (Word (refusal_place refusal) Rule Rest)
   rule_judged true keeps kept =
       record {
         early = λ p h. (λ q. keeps refl) then judged.early p (omega arith);
@@ -91,7 +93,7 @@ module _ (refusal rest : Verdict) (from end : ℕ) (Rule : Type 0) (Rest : ℕ �
   rule_judged false keeps kept =
       record {
         early = λ p h. (λ q. absurd (omega arith)) then judged.early p (omega arith);
-        all = λ z p. absurd (omega arith);
+        all = λ z p. absurd (no_refusal_is_zero refusal z);
         number = λ r. word-rule;
         not_before = λ r. omega arith;
         inside = λ r. room;
@@ -100,9 +102,9 @@ module _ (refusal rest : Verdict) (from end : ℕ) (Rule : Type 0) (Rest : ℕ �
       }
 
 -- the rule that a number is at most `most`, and then the rest
-pub most_judged : (number most : ℕ) (refusal rest : Verdict) (from end : ℕ) (Rest : ℕ → Type 0) → 2 ≤ number_of refusal
-    → place_of refusal ≤ from → place_of refusal < end → Judged rest from end Rest
-    → Judged (rule leb number most else refusal then rest) (place_of refusal) end (Word (place_of refusal) (number ≤ most) Rest)
+pub most_judged : (number most : ℕ) (refusal : Refusal) (rest : Verdict) (from end : ℕ) (Rest : ℕ → Type 0) → 2 ≤ refusal_number refusal
+    → refusal_place refusal ≤ from → refusal_place refusal < end → Judged rest from end Rest
+    → Judged (rule leb number most else refusal then rest) (refusal_place refusal) end (Word (refusal_place refusal) (number ≤ most) Rest)
 most_judged number most refusal rest from end Rest word-rule behind room judged =
     rule_judged refusal rest from end (number ≤ most) Rest word-rule behind room judged (leb number most) (leb-true number most) (le-leb number most)
 
@@ -114,7 +116,7 @@ module _ (first second : Verdict) (from middle end : ℕ) (First Second : ℕ �
   by true e =
       let z = eqb-true _ _ e in
       let judged = two z in
-      rw (seq_next (first or_else second) first second first (number_of first) refl refl refl z)
+      rw (or_next first second z)
       record {
         early = λ p h. one.early p h and judged.early p (omega arith);
         all = λ y p. one.all z p and judged.all y p;
@@ -126,7 +128,7 @@ module _ (first second : Verdict) (from middle end : ℕ) (First Second : ℕ �
       }
   by false e =
       let no = eqb-false _ _ e in
-      rw (← (seq_stop (first or_else second) first second first (number_of first) refl refl refl no))
+      rw (or_stop first second no)
       record {
         early = λ p h. one.early p h and early-two p (omega arith);
         all = λ y p. absurd (no y);

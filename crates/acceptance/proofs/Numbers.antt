@@ -21,7 +21,8 @@ use Rattle.limits.specs.Editions.{edition_known}
 use Rattle.calendar.specs.Date.{real_date}
 use Rattle.verdict.specs.declared.Refusal.TheVariants.{BadEdition, BadDate, BadAreaCount, BadPeakHours, BadContents, BadBodyHead}
 use Rattle.verdict.specs.declared.Refusal.TheVariants.{BadCoordinator, OutOfRange, RunningDemandTooLarge}
-use Rattle.verdict.specs.Verdict.{number_of, place_of, Accepted, Verdict}
+use Rattle.verdict.specs.declared.Refusal.{Refusal}
+use Rattle.verdict.specs.Verdict.{refusal_number, refusal_place, number_of, place_of, Accepted, Verdict}
 use Rattle.verdict.specs.First.{rule◌else◌then◌, ◌or_else◌}
 use Rattle.verdict.proofs.First.{Holds, rule_holds, or_holds, scan_holds}
 use Rattle.hour.specs.Layout.{missing, hour_words}
@@ -48,16 +49,16 @@ module _ (due : ℕ → ℕ) where
   accepted = record { holds = λ r. absurd (r refl) }
 
   -- a word's rule with nothing behind it, and with the rest behind it
-  one : (test : Bool) (refusal : Verdict) → due (place_of refusal) ≡ number_of refusal → Holds (Numbered due) (rule test else refusal then Accepted)
+  one : (test : Bool) (refusal : Refusal) → due (refusal_place refusal) ≡ refusal_number refusal → Holds (Numbered due) (rule test else refusal then Accepted)
   one test refusal e = rule_holds (Numbered due) test refusal Accepted (λ _ _. e) (λ _. accepted)
 
-  next : (test : Bool) (refusal rest : Verdict) → due (place_of refusal) ≡ number_of refusal → Holds (Numbered due) rest
+  next : (test : Bool) (refusal : Refusal) (rest : Verdict) → due (refusal_place refusal) ≡ refusal_number refusal → Holds (Numbered due) rest
       → Holds (Numbered due) (rule test else refusal then rest)
   next test refusal rest e r = rule_holds (Numbered due) test refusal rest (λ _ _. e) (λ _. r)
 
   -- a word with two rules and two numbers
-  two : (test more : Bool) (first second : Verdict) → place_of second ≡ place_of first
-      → due (place_of first) ≡ cond test (number_of second) (number_of first)
+  two : (test more : Bool) (first second : Refusal) → refusal_place second ≡ refusal_place first
+      → due (refusal_place first) ≡ cond test (refusal_number second) (refusal_number first)
       → Holds (Numbered due) (rule test else first then rule more else second then Accepted)
   two test more first second same e =
       rule_holds (Numbered due) test first _ (λ t _. e ∙ rw t)

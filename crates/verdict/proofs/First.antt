@@ -40,6 +40,11 @@ pub or_refused : (refusal : Refusal) (second : Verdict) → (Err refusal or_else
 unfolding ◌or_else◌
 or_refused refusal second = refl
 
+pub or_stop : (first second : Verdict) → (number_of first ≡ 0 → ⊥) → (first or_else second) ≡ first
+unfolding ◌or_else◌
+or_stop (Ok _) second n = absurd (n refl)
+or_stop (Err refusal) second n = refl
+
 -- two parts accept exactly if each does
 pub or_accepts : (first second : Verdict)
     → eqb (number_of (first or_else second)) 0 ≡ (eqb (number_of first) 0 && eqb (number_of second) 0)

@@ -27,19 +27,13 @@ fn entry(
     requires { (at < 2 ^ 62) × ((words < 2 ^ 62) × ((due ≤ words) × (size < 4294967296))) }
     ensures { result ≡ entry_rule words at before due date start size }
 {
-    if !calendar::real_date(date) {
-        return Err(Refusal::BadBook { word: at });
-    }
-    if date <= before {
+    if !calendar::real_date(date) || date <= before {
         return Err(Refusal::BadBook { word: at });
     }
     if start != due {
         return Err(Refusal::BadBook { word: at + 1 });
     }
-    if size < LEAST_DAY_WORDS {
-        return Err(Refusal::BadBook { word: at + 2 });
-    }
-    if words < due + size {
+    if size < LEAST_DAY_WORDS || words < due + size {
         return Err(Refusal::BadBook { word: at + 2 });
     }
     Ok(())
@@ -66,6 +60,7 @@ fn contents(book: &[u8], n: usize) -> Result<(), Refusal>
 }
 
 // Word 1 of each of n files.
+#[tactic(auto, using(verdict::proofs::First::in_order, crate::proofs::Places::file_within, std::proofs::lemmas::Bool::Decides::nat_tests), unfolding(crate::specs::Check::date_rule_at))]
 fn dates(book: &[u8], n: usize) -> Result<(), Refusal>
     requires { (n ≡ count_of book.now) × (Sound book.now) }
     ensures { result ≡ scan (date_rule_at book.now) 0 n }
@@ -81,6 +76,7 @@ fn dates(book: &[u8], n: usize) -> Result<(), Refusal>
 }
 
 // The contents, then word 1 of each file.
+#[tactic(auto, using(verdict::proofs::First::in_order, crate::proofs::Kept::sound_contents))]
 fn check_days(book: &[u8], n: usize) -> Result<(), Refusal>
     requires { (n ≡ count_of book.now) × ((n ≤ most_book_days) × (8 + 12 * n ≤ length book.now)) }
     ensures { result ≡ (scan (entry_rule_at book.now) 0 n or_else scan (date_rule_at book.now) 0 n) }
@@ -90,21 +86,16 @@ fn check_days(book: &[u8], n: usize) -> Result<(), Refusal>
 }
 
 // The first word of a book that breaks its rule. The days themselves are not checked.
+#[tactic(auto, using(std::proofs::lemmas::Bool::Decides::nat_tests), unfolding(crate::specs::Check::book_rule))]
 pub fn check(book: &[u8]) -> Result<(), Refusal>
     ensures { result ≡ book_rule book.now }
 {
     let words = book.len() / 4;
-    if words < 2 {
-        return Err(Refusal::BadBook { word: 0 });
-    }
-    if words::word(book, 0) != 1 {
+    if words < 2 || words::word(book, 0) != 1 {
         return Err(Refusal::BadBook { word: 0 });
     }
     let n = words::word(book, 1) as usize;
-    if MOST_BOOK_DAYS < n {
-        return Err(Refusal::BadBook { word: 1 });
-    }
-    if words < 2 + 3 * n {
+    if MOST_BOOK_DAYS < n || words < 2 + 3 * n {
         return Err(Refusal::BadBook { word: 1 });
     }
     check_days(book, n)

@@ -7,7 +7,14 @@ ghost use Rattle.columns.specs.Columns.{row_rule, rows_rule, charges_rule, colum
 
 use verdict::Refusal;
 
-fn check_row(place: usize, before: u32, running: u32, coordinator: u32, demand: u32) -> Result<(), Refusal>
+#[tactic(auto, using(verdict::proofs::First::in_order))]
+fn check_row(
+    place: usize,
+    before: u32,
+    running: u32,
+    coordinator: u32,
+    demand: u32,
+) -> Result<(), Refusal>
     requires { running ≤ most_demand }
     ensures { result ≡ row_rule place before running coordinator demand }
 {
@@ -15,20 +22,18 @@ fn check_row(place: usize, before: u32, running: u32, coordinator: u32, demand: 
     hour::demand(place, running, demand)
 }
 
+#[tactic(auto, using(verdict::proofs::First::in_order), unfolding(crate::specs::Columns::rows_rule))]
 fn check_rows(coordinators: &[u32], demands: &[u32]) -> Result<(), Refusal>
     requires { length coordinators.now ≡ length demands.now }
     ensures { result ≡ rows_rule coordinators.now demands.now }
 {
     let mut before: u32 = 0;
     let mut running: u32 = 0;
-    let mut i: usize = 0;
-    while i < demands.len() {
+    for (i, demand) in demands.iter().enumerate() {
         let coordinator = coordinators[i];
-        let demand = demands[i];
-        check_row(i, before, running, coordinator, demand)?;
+        check_row(i, before, running, coordinator, *demand)?;
         before = coordinator;
-        running += demand;
-        i += 1;
+        running += *demand;
     }
     Ok(())
 }
@@ -42,17 +47,22 @@ fn within(amount: i64) -> bool
 fn check_charges(amount: i64, whole: u32, count: usize, room: usize) -> Result<(), Refusal>
     ensures { result ≡ charges_rule amount whole count room }
 {
-    let can_share = shares::shareable(amount, whole);
     if room < count {
         return Err(Refusal::RoomTooShort { needed: count });
     }
-    if !can_share {
+    if !shares::shareable(amount, whole) {
         return Err(Refusal::AmountWithoutDemand { place: 0 });
     }
     Ok(())
 }
 
-fn check_columns(amount: i64, coordinators: &[u32], demands: &[u32], room: usize) -> Result<(), Refusal>
+#[tactic(auto, using(verdict::proofs::First::in_order, std::proofs::lemmas::Bool::Decides::nat_tests, std::proofs::lemmas::Int::ints), unfolding(crate::specs::Columns::columns_rule))]
+fn check_columns(
+    amount: i64,
+    coordinators: &[u32],
+    demands: &[u32],
+    room: usize,
+) -> Result<(), Refusal>
     requires { length coordinators.now ≡ length demands.now }
     ensures { result ≡ columns_rule amount coordinators.now demands.now room }
 {
@@ -75,5 +85,5 @@ pub fn share_columns(
 {
     check_columns(amount, coordinators, demands, charges.len())?;
     shares::share_demands(amount, demands, charges);
-    checked
+    Ok(())
 }

@@ -10,6 +10,7 @@ use native.Mathlib.Nat.{add-zero, sub-zero, zero-add}
 use lib.Dec.{eqb}
 use borrow.Author.Tests.{eq-eqb, ne_eqb, eqb-true, eqb-false}
 use Rattle.std.specs.Prelude.{Result, Ok, Err, ⊤, IsErrAnd}
+use Rattle.std.proofs.lemmas.Result.{err_from_is_err_and}
 use Rattle.verdict.specs.declared.Refusal.{Refusal}
 use Rattle.verdict.specs.Verdict.{Verdict, Accepted, number_of, refusal_number, verdict_in}
 use Rattle.verdict.specs.First.{rule◌else◌then◌, ◌or_else◌, scan}
@@ -182,3 +183,16 @@ pub handed_on_in : {T : Type 0} (answer : Result T Refusal) (whole : Verdict) (r
     → Err refusal ≡ whole → verdict_in answer ≡ whole
 handed_on_in (Ok _) whole refusal h e = absurd h
 handed_on_in (Err other) whole refusal h e = ap Err h ∙ e
+
+-- ---- the same for `grind`, which finds what each asks: the parts of a loop, parts in order, and the exit of a `?`
+
+pub scan_stop : (part : ℕ → Verdict) (k n : ℕ) (refusal : Refusal) → k < n → part k ≡ Err refusal → scan part k (n - k) ≡ Err refusal
+scan_stop part k n refusal below is = sym (loop_stop _ part k n refusal refl below is)
+
+pub scan_next : (part : ℕ → Verdict) (k n : ℕ) → k < n → part k ≡ Accepted → scan part k (n - k) ≡ scan part (k + 1) (n - (k + 1))
+scan_next part k n below is = loop_next _ part k n tt refl below is
+
+pub scan_done : (part : ℕ → Verdict) (k n : ℕ) → n ≤ k → scan part k (n - k) ≡ Accepted
+scan_done part k n past = sym (loop_done _ part k n refl past)
+
+pub ruleset in_order = (scan_stop, scan_next, scan_done, or_accepted, or_refused, err_from_is_err_and)

@@ -1,9 +1,9 @@
 // The test of a record of failing days: whether accepted entries leave it, and whether a trading day comes after its last day.
 #![tactic(auto)]
 
-ghost use Rattle.std.specs.Prelude.{◌≡◌, true, ◌≤◌, drop};
+ghost use Rattle.std.specs.Prelude.{◌≡◌, true, ◌≤◌, drop, IfOk};
 ghost use Rattle.limits.specs.Editions.{most_held};
-ghost use Rattle.verdict.specs.Verdict.{number_of};
+ghost use Rattle.verdict.specs.Verdict.{number_of, verdict_in};
 ghost use Rattle.calendar.specs.Date.{real_date};
 ghost use Rattle.calendar.specs.DayNumber.{day_number};
 ghost use Rattle.contents.specs.File.{areas_of};
@@ -11,7 +11,6 @@ ghost use Rattle.dayfile.specs.Plain.{PlainTold};
 ghost use Rattle.recording.specs.Record.{entries};
 ghost use Rattle.record_check.specs.Left.{marks_end, place_left, places_left, place_empty, unused_empty, last_left, record_left, record_rule, admit_rule, days_between};
 
-use dayfile::Told;
 use recording::{Place, Record};
 use verdict::Refusal;
 
@@ -37,28 +36,18 @@ fn marks_end(day: u32) -> u32
 }
 
 // An area held, of a number from `low` on.
+#[tactic(auto, unfolding(crate::specs::Left::place_left))]
 fn place_left(end: u32, low: u32, p: Place) -> bool
     ensures { result ≡ place_left end low p }
 {
-    if p.area < low {
-        return false;
-    }
-    if limits::LARGEST_NUMBER < p.area {
-        return false;
-    }
-    if p.marks < 1 {
-        return false;
-    }
-    p.marks < end
+    low <= p.area && p.area <= limits::LARGEST_NUMBER && 1 <= p.marks && p.marks < end
 }
 
+#[tactic(auto, unfolding(crate::specs::Left::place_empty))]
 fn place_empty(p: Place) -> bool
     ensures { result ≡ place_empty p }
 {
-    if p.area != 0 {
-        return false;
-    }
-    p.marks == 0
+    p.area == 0 && p.marks == 0
 }
 
 // The areas held rise, and each has marks that it may have.
@@ -67,16 +56,13 @@ fn places_left(given: Record, end: u32) -> bool
     ensures { result ≡ places_left end 1 (entries given) }
 {
     let places = given.places;
-    let held = given.held as usize;
+    let held = &places[..given.held as usize];
     let mut low: u32 = 1;
-    let mut k = 0;
-    while k < held {
-        let p = places[k];
-        if !place_left(end, low, p) {
+    for p in held {
+        if !place_left(end, low, *p) {
             return false;
         }
         low = p.area + 1;
-        k += 1;
     }
     true
 }
@@ -87,13 +73,11 @@ fn unused_empty(given: Record) -> bool
     ensures { result ≡ unused_empty (drop given.held given.places) }
 {
     let places = given.places;
-    let mut k = given.held as usize;
-    while k < limits::MOST_HELD {
-        let p = places[k];
-        if !place_empty(p) {
+    let unused = &places[given.held as usize..];
+    for p in unused {
+        if !place_empty(*p) {
             return false;
         }
-        k += 1;
     }
     true
 }
@@ -124,6 +108,7 @@ fn record_left(given: Record) -> bool
 }
 
 // 14, then 18, for a trading day.
+#[tactic(auto, unfolding(crate::specs::Left::record_rule))]
 fn judge(given: Record, date: u32) -> Result<(), Refusal>
     ensures { result ≡ record_rule given date }
 {
@@ -137,18 +122,13 @@ fn judge(given: Record, date: u32) -> Result<(), Refusal>
 }
 
 // The check of a day file, which tells its plain areas, then the record judged for its trading day.
-pub fn admit(given: Record, file: &[u8]) -> Told
-    ensures answer_value { result.answer ≡ admit_rule given file.now }
-    ensures plain_told { number_of result.answer ≡ 0 → PlainTold result.plain file.now (areas_of file.now) }
+pub fn admit(given: Record, file: &[u8]) -> Result<[bool; limits::PROVED_AREAS], Refusal>
+    ensures answer_value { verdict_in result ≡ admit_rule given file.now }
+    ensures plain_told { IfOk result (λ plain. PlainTold plain file.now (areas_of file.now)) }
 {
-    let told = dayfile::checked(file);
-    let first = told.answer;
-    if verdict::number(first) != 0 {
-        return told;
-    }
-    let plain = told.plain;
-    let answer = judge(given, words::word(file, 1));
-    Told { answer, plain }
+    let plain = dayfile::checked(file)?;
+    judge(given, words::word(file, 1))?;
+    Ok(plain)
 }
 
 // The calendar days between the last day entered and a trading day after it.

@@ -1,8 +1,9 @@
 -- What a word is as a signed number, by which half it lies in.
-use Rattle.std.proofs.Common.{◌≡◌, ℕ, ◌+◌, ◌-◌, ◌%◌, ◌<◌, ◌≤◌, true, ltb, ℤ, pos, negsuc, ◌-ℤ◌, ap, arith, w32, SFits, le-ltb, lt-ltb}
+use Rattle.std.proofs.Common.{◌≡◌, ℕ, ◌+◌, ◌-◌, ◌%◌, ◌<◌, ◌≤◌, true, ltb, ℤ, pos, negsuc, ◌-ℤ◌, ap, arith, w32, to_z, le-ltb, lt-ltb}
 use mathlib.Core.Logic.{dite}
 use native.Mathlib.Decide.{dec_lt}
 use lib.IntN.{sub_ℕ}
+use mir.ValLaws.{to_z_pos}
 use Rattle.exact.proofs.Magnitude.{sub_ind}
 use Rattle.exact.proofs.Difference.{minus_sub}
 use Rattle.words.specs.Word.{signed_of}
@@ -22,9 +23,9 @@ by_half : (P : ℤ → Type 0) (w : ℕ) → w < 4294967296 → (w < 2147483648 
 by_half P w l f g =
     dite (dec_lt w 2147483648) (λ h. rw (low w h) (f h)) (λ h. rw (high w (omega (arith, h)) l) (g (omega (arith, h))))
 
--- a word fits 32 bits as a signed number
-pub signed_fits : (w : ℕ) → w < 4294967296 → SFits w32 (signed_of w)
-signed_fits w l = by_half (SFits w32) w l (λ h. record { sfits = omega arith }) (λ h. record { sfits = omega arith })
+-- the library's cast, in the rules' words
+pub cast : (w : ℕ) → w < 4294967296 → to_z w32 w ≡ signed_of w
+cast w l = by_half (λ z. to_z w32 w ≡ z) w l (λ h. to_z_pos w32 w h) (λ h. simp (le-ltb w 2147483648 h) (ap negsuc (omega arith)))
 
 -- 2^31 added and taken away again, around 2^32
 pub shifted : (w u : ℕ) → w < 4294967296 → u ≡ (w + 2147483648) % 4294967296 → pos u -ℤ pos 2147483648 ≡ signed_of w

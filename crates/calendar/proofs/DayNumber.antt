@@ -69,7 +69,7 @@ quiet a (suc n) none =
 
 -- ---- a month
 
-days_most : (y m : ℕ) → days_in y m ≤ 31
+pub days_most : (y m : ℕ) → days_in y m ≤ 31
 unfolding days_in
 days_most y m = by (eqb m 2) (leap_year y) refl refl
   where

@@ -1,16 +1,17 @@
 -- Numbers as bytes, one number after the other.
-use Prim.Native.Nat.{ℕ, ◌+◌, ◌*◌, ◌-◌, ◌<◌}
-use mathlib.Core.Path.{◌≡◌, refl, sym, ap, ◌∙◌}
-use mathlib.Core.List.{List, [], ◌∷◌, ◌++◌, append_assoc, append-nil}
-use native.Mathlib.Numerals.{add-one}
+use Rattle.std.proofs.Common.{◌≡◌, ℕ, ◌+◌, ◌*◌, ◌-◌, ◌<◌, List, [], ◌∷◌, ◌++◌, length, take, drop, get_or, sym, refl, ap, ◌∙◌, append_assoc, append-nil, arith, length-append, add-one, ℤ, pos, negsuc, w64, of_z}
+use Rattle.std.specs.Int.{to_le_bytes}
 use native.Mathlib.Nat.{le_of_lt}
-use native.Mathlib.Omega.{arith}
-use lib.IntN.{ℤ, pos}
-use lib.ListN.{length, take, drop, get_or, length-append}
 use lib.Seq.{take-suc, length-take-le}
 use borrow.Rule.Slice.PartMut.{put_mid}
 use Rattle.exact.proofs.Lending.{lent_back}
 use Rattle.encoding.specs.Encoding.{bits_of, bytes_of, encoded}
+
+-- the library's bytes of a number, in the rules' words
+pub le_bytes : (z : ℤ) → to_le_bytes w64 (of_z w64 z) ≡ bytes_of (bits_of z)
+unfolding bytes_of
+le_bytes (pos n) = refl
+le_bytes (negsuc n) = simp add-one refl
 
 pub eight_bytes : (bits : ℕ) → length (bytes_of bits) ≡ 8
 unfolding bytes_of

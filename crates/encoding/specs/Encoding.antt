@@ -29,10 +29,6 @@ encoded (z ∷ numbers) = bytes_of (bits_of z) ++ encoded numbers
 pub record AllFit (numbers : List ℤ) : Type 0 where
   pub each : (i : ℕ) → i < length numbers → SFits w64 (get_or numbers i (pos 0))
 
--- the number that some bytes begin with, if they begin with one
-pub record NumberIn (bytes : List ℕ) (number : ℤ) : Type 0 where
-  pub is : (z : ℤ) (rest : List ℕ) → SFits w64 z → bytes ≡ bytes_of (bits_of z) ++ rest → number ≡ z
-
 -- the numbers that some bytes encode, if they encode some, written over the front of `before`
 pub record NumbersIn (bytes : List ℕ) (before after : List ℤ) : Type 0 where
   pub are : (numbers : List ℤ) → AllFit numbers → bytes ≡ encoded numbers → after ≡ numbers ++ drop (length numbers) before

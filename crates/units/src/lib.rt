@@ -11,15 +11,15 @@ ghost use Rattle.exact.specs.Floor.{at_least_zero, at_most_zero};
 use std::ops::{Add, Sub};
 
 // Thousandths of a MW or MWh.
-#[derive(Clone, Copy)]
+#[derive(Clone, Copy, PartialEq, Eq, PartialOrd, Ord)]
 pub struct Quantity(pub u32);
 
 // Whole cents per MWh.
-#[derive(Clone, Copy)]
+#[derive(Clone, Copy, PartialEq, Eq, PartialOrd, Ord)]
 pub struct HubPrice(pub i32);
 
 // $0.0001 per MWh.
-#[derive(Clone, Copy)]
+#[derive(Clone, Copy, PartialEq, Eq, PartialOrd, Ord)]
 pub struct MarketPrice(pub i32);
 
 // A market price as a word, 2^31 higher: never below 0, and 0 where it is the lowest of all words.

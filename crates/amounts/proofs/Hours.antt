@@ -95,5 +95,5 @@ module _ {terms : Terms} {day : Day} {body : List ℕ} {h at : ℕ} (k : AtHour 
   pub hour_there : HourRanged body at
   hour_there = rw k.here (hour_ranged body k.sound h k.below)
 
-  pub pairs_there : PairsRanged body (points_of body) (at + 8)
-  pairs_there = rw k.here (pairs_ranged body k.sound h k.below)
+  pub pairs_there : (load : ℕ) → load ≡ points_of body → PairsRanged body load (at + 8)
+  pairs_there load e = rw (e, k.here) (pairs_ranged body k.sound h k.below)

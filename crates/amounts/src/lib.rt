@@ -125,7 +125,7 @@ pub fn hour_price(body: &[u8], load: usize, from: usize) -> Result<Priced, Price
 }
 
 // Whether an amount of hour h, which starts at word `at`, asks for the hour's price.
-#[tactic(auto, using(crate::proofs::Hours::hour_there), unfolding(crate::specs::Amounts::price_needed, crate::specs::Amounts::tier_at, crate::specs::Amounts::hour_facts, crate::specs::Amounts::day_facts, surcharge::specs::Surcharge::day_of))]
+#[tactic(auto, using(crate::proofs::Hours::hour_there))]
 fn price_asked(terms: Terms, day: Day, body: &[u8], h: usize, at: usize) -> bool
     requires { AtHour terms day body.now h at }
     ensures { result ≡ price_needed terms body.now h }

@@ -1,9 +1,8 @@
 use Rattle.std.proofs.Common.{◌≡◌, refl, sym, ap, ap₂, ◌∙◌, max, arith, rules}
 use Rattle.body.specs.Layout.{hour_at}
-use Rattle.body.proofs.Kept.{hour_inside}
 use Rattle.surcharge.specs.Surcharge.{peak_hour}
 use Rattle.amounts.specs.Amounts.{highest, upward_at, tier_at, hour_facts}
-use Rattle.amounts.proofs.Hours.{highest_more, hour_upward, hour_tier, hour_ranged}
+use Rattle.amounts.proofs.Hours.{highest_more, hour_upward, hour_tier, walk_ranged, walk_on}
 use Rattle.amounts.proofs.highest_hour.Goals as goal
 
 pub loop-h-init : goal.loop-h-init
@@ -11,13 +10,11 @@ unfolding highest
 loop-h-init c = record { start = rw (← c.word-load.ensures, ← c.word-count.ensures) c.first_hour-at.ensures; most = refl; tier = refl }
 
 pub hour_facts-facts-requires : goal.hour_facts-facts-requires
-hour_facts-facts-requires c = rw c.loop-h.invariant.start (hour_ranged c.args.body.now c.requires c.loop-h.h (omega arith))
+hour_facts-facts-requires c = let l = c.loop-h in walk_ranged _ c.requires l.h (omega arith) _ l.invariant.start
 
 pub next_hour-at-requires : goal.next_hour-at-requires
 next_hour-at-requires c =
-    let l = c.loop-h in
-    rw (c.word-load.ensures, c.word-count.ensures)
-    (l.invariant.start, omega (arith, l.invariant.start, hour_inside _ _ c.requires l.h (omega arith)))
+    let l = c.loop-h in walk_on _ c.requires l.h (omega arith) _ l.invariant.start _ _ c.word-load.ensures c.word-count.ensures (omega arith)
 
 pub loop-h-preserved : goal.loop-h-preserved
 loop-h-preserved c =

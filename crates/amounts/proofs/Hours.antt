@@ -7,10 +7,12 @@ use native.Mathlib.Nat.{add_assoc}
 use native.Mathlib.Numerals.{add-one}
 use native.Mathlib.Omega.{arith}
 use lib.IntN.{nat_abs}
+use lib.ListN.{length}
 use lib.Signed.{lt_z}
 use Rattle.words.proofs.Part.{word_part}
 use Rattle.limits.specs.Ranges.{day_hours, most_hub_price, most_upward, proved_points}
-use Rattle.body.specs.Layout.{hour_at, intervals_at, points_of, quantity_at, price_at, hub_price_a, hub_price_b}
+use Rattle.body.specs.Layout.{hour_start, hour_at, intervals_at, points_of, coordinators_of, quantity_at, price_at, hub_price_a, hub_price_b}
+use Rattle.hour.specs.Layout.{hour_words}
 use Rattle.body.specs.Kept.{Sound}
 use Rattle.body.proofs.Kept.{always, hour_inside}
 use Rattle.price.specs.Price.{quantity_of, price_of}
@@ -59,6 +61,15 @@ module _ (body : List ℕ) (sound : Sound proved_points body) where
     pub hour_ranged : HourRanged body (hour_at body h)
     hour_ranged = record { room = omega (arith, hour_inside proved_points body sound h below); deficiency = λ i p. sound.deficiency h i below p always }
 
+    -- where the walk over the hours is at hour h, the hour is in range, and the walk may go on
+    module _ (at : ℕ) (here : at ≡ hour_at body h) where
+      pub walk_ranged : HourRanged body at
+      walk_ranged = rw here hour_ranged
+
+      pub walk_on : (load coordinators : ℕ) → load ≡ points_of body → coordinators ≡ coordinators_of body → length body < 18446744073709551616
+          → (at ≡ hour_start load coordinators h) × (at + hour_words load coordinators < 18446744073709551616)
+      walk_on load coordinators e f small = rw (e, f) (here, omega (arith, hour_inside proved_points body sound h below))
+
     part : List ℕ
     part = pairs_from body (intervals_at body h)
 
@@ -95,5 +106,5 @@ module _ {terms : Terms} {day : Day} {body : List ℕ} {h at : ℕ} (k : AtHour 
   pub hour_there : HourRanged body at
   hour_there = rw k.here (hour_ranged body k.sound h k.below)
 
-  pub pairs_there : PairsRanged body (points_of body) (at + 8)
-  pairs_there = rw k.here (pairs_ranged body k.sound h k.below)
+  pub pairs_there : (load : ℕ) → load ≡ points_of body → PairsRanged body load (at + 8)
+  pairs_there load e = rw (e, k.here) (pairs_ranged body k.sound h k.below)

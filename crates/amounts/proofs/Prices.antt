@@ -7,8 +7,7 @@ use lib.Dec.{eqb, leb}
 use Rattle.limits.specs.Ranges.{least_present}
 use Rattle.verdict.specs.Verdict.{number_of, Accepted}
 use Rattle.body.specs.Layout.{points_of, intervals_at}
-use Rattle.price.specs.declared.PriceAnswer.{PriceAnswer}
-use Rattle.price.specs.Price.{answer_number, answer_count}
+use Rattle.price.specs.Price.{PriceAnswer, answer_number, answer_count}
 use Rattle.surcharge.specs.declared.Terms.{Terms}
 use Rattle.amounts.specs.Amounts.{price_answer_at, usable_rule, price_needed, price_rule}
 

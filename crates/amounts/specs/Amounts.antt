@@ -6,8 +6,7 @@ use Rattle.verdict.specs.Verdict.{Accepted, Verdict}
 use Rattle.verdict.specs.declared.Refusal.TheVariants.{PriceWithoutQuantity, TooFewIntervals}
 use Rattle.verdict.specs.First.{rule◌else◌then◌}
 use Rattle.body.specs.Layout.{flag_of, hub_price_a, hub_price_b, points_of, hour_at, requirement_at, mec_at, intervals_at}
-use Rattle.price.specs.declared.PriceAnswer.{PriceAnswer}
-use Rattle.price.specs.Price.{average_price, answer_price, answer_number, answer_count}
+use Rattle.price.specs.Price.{PriceAnswer, average_price, answer_price, answer_number, answer_count}
 use Rattle.surcharge.specs.declared.Terms.{Terms}
 use Rattle.surcharge.specs.declared.Day.{Day}
 use Rattle.surcharge.specs.Surcharge.{peak_hour, tier_of, greater_price, surcharge_of, on_peak_of, surcharge_in_cents, credit_in_cents, off_peak_of, downward_of}

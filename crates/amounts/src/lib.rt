@@ -11,7 +11,7 @@ ghost use Rattle.amounts.specs.Amounts.{upward_from, downward_from, hour_facts, 
 ghost use Rattle.amounts.specs.Amounts.{price_needed, needed_price, usable_rule, price_rule};
 ghost use Rattle.amounts.specs.Ranges.{HourRanged, PairsRanged, AtHour, AmountsRanged};
 
-use price::PriceAnswer;
+use price::{PriceRefusal, Priced};
 use surcharge::{Day, Terms};
 use units::{Cents, HubPrice, MarketPrice, Quantity};
 use verdict::Refusal;
@@ -34,6 +34,7 @@ pub struct Amounts {
 }
 
 // U of the hour that starts at word `at`.
+#[tactic(auto, unfolding(crate::specs::Amounts::upward_from))]
 pub fn upward(body: &[u8], at: usize) -> Quantity
     requires { HourRanged body.now at }
     ensures { result.0 ≡ upward_from body.now at }
@@ -42,19 +43,22 @@ pub fn upward(body: &[u8], at: usize) -> Quantity
     let regulation = Quantity(words::word(body, at + 1));
     let spin = Quantity(words::word(body, at + 2));
     let other = Quantity(words::word(body, at + 3));
-    energy.plus(regulation).plus(spin).plus(other)
+    energy + regulation + spin + other
 }
 
 // W of the hour that starts at word `at`.
+#[tactic(auto, unfolding(crate::specs::Amounts::downward_from))]
 pub fn downward_quantity(body: &[u8], at: usize) -> Quantity
     requires { HourRanged body.now at }
     ensures { result.0 ≡ downward_from body.now at }
 {
     let energy = Quantity(words::word(body, at + 4));
-    energy.plus(Quantity(words::word(body, at + 5)))
+    let regulation = Quantity(words::word(body, at + 5));
+    energy + regulation
 }
 
 // U and the tier of the hour that starts at word `at`, where it counts.
+#[tactic(auto, using(crate::proofs::Quantities::upward_small), unfolding(crate::specs::Amounts::hour_facts))]
 pub fn hour_facts(counts: bool, body: &[u8], at: usize) -> Hour
     requires { HourRanged body.now at }
     ensures { result ≡ hour_facts counts body.now at }
@@ -70,15 +74,6 @@ pub fn hour_facts(counts: bool, body: &[u8], at: usize) -> Hour
     Hour { upward, tier }
 }
 
-fn larger(a: u32, b: u32) -> u32
-    ensures { result ≡ max a b }
-{
-    if a < b {
-        return b;
-    }
-    a
-}
-
 // The highest U and the highest tier of the peak hours.
 fn highest_hour(terms: Terms, body: &[u8]) -> Hour
     requires { Sound proved_points body.now }
@@ -86,24 +81,19 @@ fn highest_hour(terms: Terms, body: &[u8]) -> Hour
 {
     let load = words::word(body, 5) as usize;
     let count = words::word(body, 6) as usize;
-    let mut most: u32 = 0;
+    let mut most = Quantity(0);
     let mut tier: u32 = 0;
     let mut at = body::first_hour(load, count);
-    let mut h: usize = 0;
-    while h < limits::DAY_HOURS {
+    for h in 0..limits::DAY_HOURS {
         let facts = hour_facts(surcharge::peak_hour(terms, h), body, at);
-        let upward = facts.upward;
-        most = larger(most, upward.0);
-        tier = larger(tier, facts.tier);
+        most = most.max(facts.upward);
+        tier = tier.max(facts.tier);
         at = body::next_hour(load, count, h, at);
-        h += 1;
     }
-    Hour {
-        upward: Quantity(most),
-        tier,
-    }
+    Hour { upward: most, tier }
 }
 
+#[tactic(auto, unfolding(crate::specs::Amounts::hub_price))]
 pub fn hub_price(body: &[u8]) -> HubPrice
     requires { 20 ≤ length body.now }
     ensures { result.0 ≡ hub_price body.now }
@@ -114,17 +104,18 @@ pub fn hub_price(body: &[u8]) -> HubPrice
 }
 
 // The facts of an area's day under its terms.
+#[tactic(auto, using(crate::proofs::Hours::most_small, crate::proofs::Hours::hub_small), unfolding(crate::specs::Amounts::day_facts))]
 pub fn day_facts(terms: Terms, body: &[u8]) -> Day
     requires { (TermsKept terms) × (Sound proved_points body.now) }
     ensures { result ≡ day_facts terms body.now }
 {
     let highest = highest_hour(terms, body);
-    let most = highest.upward;
-    surcharge::day_of(terms, highest.tier, most, hub_price(body))
+    surcharge::day_of(terms, highest.tier, highest.upward, hub_price(body))
 }
 
 // The price of an hour's interval pairs, which start at word `from`: that part of the body, uncopied.
-pub fn hour_price(body: &[u8], load: usize, from: usize) -> PriceAnswer
+#[tactic(auto, unfolding(crate::specs::Amounts::price_from))]
+pub fn hour_price(body: &[u8], load: usize, from: usize) -> Result<Priced, PriceRefusal>
     requires { PairsRanged body.now load from }
     ensures { result ≡ price_from body.now from }
 {
@@ -134,6 +125,7 @@ pub fn hour_price(body: &[u8], load: usize, from: usize) -> PriceAnswer
 }
 
 // Whether an amount of hour h, which starts at word `at`, asks for the hour's price.
+#[tactic(auto, using(crate::proofs::Hours::hour_there))]
 fn price_asked(terms: Terms, day: Day, body: &[u8], h: usize, at: usize) -> bool
     requires { AtHour terms day body.now h at }
     ensures { result ≡ price_needed terms body.now h }
@@ -144,6 +136,7 @@ fn price_asked(terms: Terms, day: Day, body: &[u8], h: usize, at: usize) -> bool
 }
 
 // The price of hour h, which starts at word `at`, where an amount asks for it, and 0 where none does.
+#[tactic(auto, using(crate::proofs::Hours::hour_there), unfolding(crate::specs::Amounts::needed_price))]
 pub fn needed_price(terms: Terms, day: Day, body: &[u8], h: usize, at: usize) -> MarketPrice
     requires { AtHour terms day body.now h at }
     ensures { result.0 ≡ needed_price terms body.now h }
@@ -164,6 +157,7 @@ fn down_amount(terms: Terms, body: &[u8], at: usize) -> Cents
 }
 
 // The amounts of hour h, which starts at word `at`, at its price. `day` has the facts of the area's day.
+#[tactic(auto, using(crate::proofs::Hours::hour_there))]
 pub fn hour_amounts(
     terms: Terms,
     day: Day,
@@ -192,15 +186,12 @@ pub fn hour_amounts(
     let tier = facts.tier;
     if surcharge::peak_hour(terms, h) {
         let on_peak = surcharge::on_peak(day, tier, price);
-        let on = on_peak.amount;
-        let surcharge = day.shown;
-        let credit = on_peak.credit;
         return Amounts {
-            on,
+            on: on_peak.amount,
             off: Cents(0),
             down,
-            surcharge,
-            credit,
+            surcharge: day.shown,
+            credit: on_peak.credit,
         };
     }
     Amounts {
@@ -217,27 +208,25 @@ pub fn amount_of(amounts: Amounts) -> Cents
     requires { AmountsRanged amounts }
     ensures { result.0 ≡ (amounts.on.0 +ℤ amounts.off.0) +ℤ amounts.down.0 }
 {
-    let on = amounts.on;
-    let off = amounts.off;
-    let down = amounts.down;
-    on.plus(off).plus(down)
+    amounts.on + amounts.off + amounts.down
 }
 
 // Whether a needed price of `load` load points can be settled with. Its first interval word is at `place` of the file.
-fn usable(place: usize, load: usize, answer: PriceAnswer) -> Result<(), Refusal>
+fn usable(place: usize, load: usize, answer: Result<Priced, PriceRefusal>) -> Result<(), Refusal>
     requires { load ≤ proved_points }
     ensures { result ≡ usable_rule place load answer }
 {
     if (price::count_of(answer) as usize) < limits::LEAST_PRESENT * load {
         return Err(Refusal::TooFewIntervals { place });
     }
-    if price::number(answer) == 11 {
+    if matches!(answer, Err(PriceRefusal::NoQuantity { .. })) {
         return Err(Refusal::PriceWithoutQuantity { place });
     }
     Ok(())
 }
 
 // What the price of hour h refuses, where it is needed, in the body that starts at word `start` of the file.
+#[tactic(auto, using(crate::proofs::Hours::hour_there), unfolding(crate::specs::Amounts::price_rule))]
 pub fn check_price(
     terms: Terms,
     day: Day,

@@ -1,12 +1,12 @@
 -- Numbers for each hour and direction, one behind the other: how many they are, which stands where, and two of them stored.
-use Prim.Native.Nat.{ℕ, zero, suc, ◌+◌, ◌*◌, ◌-◌, ◌≤◌, ◌<◌}
-use mathlib.Core.List.{List, [], ◌∷◌}
+use Prim.Native.Nat.{ℕ, zero, suc, ◌+◌, ◌*◌, ◌-◌, ◌<◌}
+use mathlib.Core.List.{List, ◌∷◌, ◌++◌}
 use mathlib.Core.Path.{◌≡◌, refl}
 use native.Mathlib.Nat.{add-zero}
 use native.Mathlib.Numerals.{add-one}
 use native.Mathlib.Omega.{arith}
-use lib.ListN.{length, get_or, set, length-set}
-use Rattle.exact.proofs.Filling.{Filling, fill_step}
+use lib.ListN.{length, get_or, drop, set, length-set}
+use Rattle.exact.proofs.Filling.{Filling, fill_step, fill_end}
 use Rattle.collecting.specs.Directions.{Direction, Upward, Downward, column_at, hours_from}
 
 module _ {A : Type 0} (numbers : ℕ → Direction → A) where
@@ -17,11 +17,13 @@ module _ {A : Type 0} (numbers : ℕ → Direction → A) where
       let e : n - h ≡ suc (n - (h + 1)) = omega arith in
       rw (e, add-one h)
 
-  pub hours_done : (h n : ℕ) → n ≤ h → hours_from numbers h (n - h) ≡ []
+  -- all that is stored, once no hour is left
+  pub hours_filled : {whole before out : List A} (h n : ℕ) → h ≡ n → Filling whole before out (hours_from numbers h (n - h)) (2 * h)
+      → out ≡ whole ++ drop (2 * n) before
   unfolding hours_from
-  hours_done h n past =
-      let e : n - h ≡ 0 = omega arith in
-      rw e
+  hours_filled h n e filling =
+      let none : n - n ≡ 0 = omega arith in
+      fill_end (rw (e, none) at filling)
 
   pub hours_length : (h n : ℕ) → length (hours_from numbers h n) ≡ 2 * n
   unfolding hours_from

@@ -16,9 +16,7 @@ fn upward_amount(amounts: Amounts) -> i64
     requires { AmountsRanged amounts }
     ensures { result ≡ amounts.on.0 +ℤ amounts.off.0 }
 {
-    let on = amounts.on;
-    let off = amounts.off;
-    let upward = on.plus(off);
+    let upward = amounts.on + amounts.off;
     upward.0
 }
 
@@ -31,16 +29,12 @@ pub fn collect(terms: Terms, body: &[u8], collected: &mut [i64])
     let load = words::word(body, 5) as usize;
     let count = words::word(body, 6) as usize;
     let mut at = body::first_hour(load, count);
-    let mut h: usize = 0;
-    while h < limits::DAY_HOURS {
+    for h in 0..limits::DAY_HOURS {
         let price = amounts::needed_price(terms, day, body, h, at);
         let amounts = amounts::hour_amounts(terms, day, price, body, h, at);
         collected[2 * h] = upward_amount(amounts);
-        let down = amounts.down;
-        let downward = down.0;
-        collected[2 * h + 1] = downward;
+        collected[2 * h + 1] = amounts.down.0;
         at = body::next_hour(load, count, h, at);
-        h += 1;
     }
 }
 
@@ -66,14 +60,12 @@ pub fn count_basis(body: &[u8], basis: &[u32], counted: &mut [u32])
     let load = words::word(body, 5) as usize;
     let count = words::word(body, 6) as usize;
     let mut at = body::first_hour(load, count);
-    let mut h: usize = 0;
-    while h < limits::DAY_HOURS {
+    for h in 0..limits::DAY_HOURS {
         let upward = amounts::upward(body, at);
         let downward = amounts::downward_quantity(body, at);
         let own = basis[h];
         counted[2 * h] = where_passed(flag, upward.0, own);
         counted[2 * h + 1] = where_passed(flag, downward.0, own);
         at = body::next_hour(load, count, h, at);
-        h += 1;
     }
 }

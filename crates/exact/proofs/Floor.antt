@@ -1,23 +1,23 @@
--- The floors at 0, by the test that the code makes.
+-- The floors at 0, which the code finds as `max` and `min` do.
 use mathlib.Core.Path.{◌≡◌, refl}
-use mathlib.Core.Bool.{true, false}
-use Prim.Native.Nat.{ℕ, ◌≤◌, zero-le}
+use borrow.Author.Rules.{rules}
+use Prim.Native.Nat.{zero, suc, ◌≤◌, zero-le}
 use native.Mathlib.Nat.{le_refl}
-use native.Mathlib.Omega.{arith}
-use borrow.Author.Tests.{ltb-true}
 use lib.IntN.{ℤ, pos, negsuc, nat_abs}
-use lib.Signed.{lt_z}
+use Rattle.std.specs.Int.{int_max, int_min}
 use Rattle.exact.specs.Floor.{at_least_zero, at_most_zero}
 
-pub negative : (z : ℤ) → lt_z z (pos 0) ≡ true → (at_least_zero z ≡ pos 0) × (at_most_zero z ≡ z)
-unfolding at_least_zero at_most_zero
-negative (pos n) t = absurd (omega (arith, ltb-true n 0 t))
-negative (negsuc n) t = (refl, refl)
+pub max_zero : (z : ℤ) → int_max z (pos 0) ≡ at_least_zero z
+unfolding at_least_zero
+max_zero (pos zero) = refl
+max_zero (pos (suc n)) = search rules
+max_zero (negsuc n) = refl
 
-pub not_negative : (z : ℤ) → lt_z z (pos 0) ≡ false → (at_least_zero z ≡ z) × (at_most_zero z ≡ pos 0)
-unfolding at_least_zero at_most_zero
-not_negative (pos n) t = (refl, refl)
-not_negative (negsuc n) t = let z : ◌≡◌ {A = ℕ} 0 1 = cc in absurd (omega arith)
+pub min_zero : (z : ℤ) → int_min z (pos 0) ≡ at_most_zero z
+unfolding at_most_zero
+min_zero (pos zero) = refl
+min_zero (pos (suc n)) = search rules
+min_zero (negsuc n) = refl
 
 -- a floor makes no number larger
 pub abs_at_least : (z : ℤ) → nat_abs (at_least_zero z) ≤ nat_abs z

@@ -4,10 +4,9 @@ use Prim.Native.Nat.{◌<◌, ◌≤◌, ◌^◌}
 use native.Mathlib.Nat.{le_refl, le-suc, lt_of_le_of_lt}
 use lib.IntN.{ℤ, pos, negsuc, nat_abs}
 use lib.Signed.{mag}
-use mir.Syntax.{Width, w32, w64}
+use mir.Syntax.{Width, w64}
 use mir.Val.{SFits, of_z, to_z, hbits}
 use mir.ValLaws.{to_z-of_z}
-use mir.Facts.{sfits_widen}
 
 mag_le : (z : ℤ) → mag z ≤ nat_abs z
 mag_le (pos n) = le_refl n
@@ -20,13 +19,6 @@ within w z h = record { sfits = lt_of_le_of_lt (mag_le z) h }
 -- what is read back of a call's result: `got w64 c.f.ok c.f.ensures`
 pub got : (w : Width) {r z : ℤ} → mag r < 2 ^ hbits w → r ≡ z → to_z w (of_z w r) ≡ z
 got w {r} k e = to_z-of_z w r (record { sfits = k }) ∙ e
-
--- a signed word is the same number in 64 bits
-pub word_fits : {z : ℤ} → SFits w32 z → SFits w64 (to_z w32 (of_z w32 z))
-word_fits {z} f = rw (to_z-of_z w32 z f) (sfits_widen tt f)
-
-pub widened : {z : ℤ} → SFits w32 z → to_z w64 (of_z w64 (to_z w32 (of_z w32 z))) ≡ z
-widened {z} f = to_z-of_z w64 _ (word_fits f) ∙ to_z-of_z w32 z f
 
 -- what the code finds equal to 0 is 0: it compares the bits
 pub zero_bits : {z : ℤ} → SFits w64 z → of_z w64 z ≡ 0 → z ≡ pos 0

@@ -42,19 +42,13 @@ pub fn times(z: i64, n: u32) -> i64
 pub fn at_least_zero(z: i64) -> i64
     ensures { result ≡ at_least_zero z }
 {
-    if z < 0 {
-        return 0;
-    }
-    z
+    z.max(0)
 }
 
 pub fn at_most_zero(z: i64) -> i64
     ensures { result ≡ at_most_zero z }
 {
-    if z < 0 {
-        return z;
-    }
-    0
+    z.min(0)
 }
 
 // How far z is from 0. For z below 0, -1 - z does not wrap.

@@ -14,19 +14,17 @@ fn failed(body: &[u8]) -> bool
     let load = words::word(body, 5) as usize;
     let count = words::word(body, 6) as usize;
     let mut at = body::first_hour(load, count);
-    let mut h: usize = 0;
-    while h < limits::DAY_HOURS {
+    for h in 0..limits::DAY_HOURS {
         let facts = amounts::hour_facts(true, body, at);
-        let tier = facts.tier;
-        if 2 <= tier {
+        if 2 <= facts.tier {
             return true;
         }
         at = body::next_hour(load, count, h, at);
-        h += 1;
     }
     false
 }
 
+#[tactic(auto, unfolding(crate::specs::Marked::marked_in))]
 pub fn marked(body: &[u8]) -> bool
     requires { Sound proved_points body.now }
     ensures { result ≡ marked_in body.now }

@@ -1,7 +1,6 @@
 -- The answer of an average, how large its price gets, and what a kept check of the pairs tells.
-use Rattle.std.proofs.Common.{◌≡◌, ℕ, ◌+◌, ◌*◌, ◌<◌, ◌≤◌, Bool, true, false, eqb, List, nat_abs, refl, zero-le, le_refl, zero-add, arith, eq-eqb, ne_eqb}
+use Rattle.std.proofs.Common.{◌≡◌, ℕ, ◌+◌, ◌*◌, ◌<◌, ◌≤◌, Bool, true, false, eqb, List, nat_abs, refl, zero-le, le_refl, zero-add, arith}
 use borrow.Author.Tests.{eqb-false}
-use Rattle.exact.specs.Round.{round_div}
 use Rattle.exact.proofs.Round.{round_within}
 use Rattle.verdict.specs.Verdict.{number_of}
 use Rattle.verdict.proofs.First.{scan_each}
@@ -11,20 +10,9 @@ use Rattle.hour.specs.Kept.{QuantityKept, PriceKept}
 use Rattle.hour.specs.Check.{interval_rule_at, intervals_rule}
 use Rattle.hour.proofs.Rules.{pair_kept}
 use Rattle.price.specs.declared.Average.{Average}
-use Rattle.price.specs.declared.PriceAnswer.TheVariants.{Price, NoQuantity}
 use Rattle.price.specs.Price.{answer_of, answer_price, average_of, average_price, quantity_of, price_of}
 use Rattle.price.specs.Ranged.{Ranged}
 use Rattle.price.proofs.Sizes.{Sized, average_sized}
-
-module _ (average : Average) where
-  pub no_quantity : average.quantity.0 ≡ 0 → NoQuantity average.count ≡ answer_of average
-  unfolding answer_of
-  no_quantity e = simp (eq-eqb _ _ e)
-
-  pub some_quantity : (average.quantity.0 ≡ 0 → ⊥)
-      → Price (record { 0 = round_div average.value.0 average.quantity.0 }) average.count ≡ answer_of average
-  unfolding answer_of
-  some_quantity e = simp (ne_eqb _ _ e)
 
 module _ (pairs : List ℕ) (n : ℕ) (accepted : number_of (intervals_rule 0 pairs 0 n) ≡ 0) where
   pair : (i : ℕ) → i < n → QuantityKept (quantity_of pairs i) × PriceKept (price_of pairs i)

@@ -1,7 +1,7 @@
 -- The load-weighted price of an hour (docs/RULES.md, section 7): "sum of quantity × price over intervals whose price is present, over the sum of the same
 -- quantities, then R to $0.0001. A missing interval's quantity is left out too." With it goes the count of those intervals. An hour's intervals are pairs of
 -- words, quantity and price.
-use Rattle.std.specs.Prelude.{ℕ, zero, suc, ◌+◌, ◌*◌, ◌/◌, ◌%◌, Bool, cond, ◌&&◌, List, length, ℤ, pos, ◌+ℤ◌, ◌*ℤ◌, ◌==◌, nat_le}
+use Rattle.std.specs.Prelude.{ℕ, zero, suc, ◌+◌, ◌*◌, ◌/◌, ◌%◌, Bool, cond, ◌&&◌, List, length, Result, Ok, Err, ℤ, pos, ◌+ℤ◌, ◌*ℤ◌, ◌==◌, nat_le}
 use Rattle.exact.specs.Round.{round_div}
 use Rattle.words.specs.Word.{word_at, signed_of}
 use Rattle.verdict.specs.Verdict.{number_of, place_of}
@@ -9,8 +9,13 @@ use Rattle.limits.specs.Editions.{most_points}
 use Rattle.hour.specs.Layout.{missing}
 use Rattle.hour.specs.Check.{intervals_rule}
 use Rattle.price.specs.declared.Average.{Average}
-use Rattle.price.specs.declared.PriceAnswer.{PriceAnswer}
-use Rattle.price.specs.declared.PriceAnswer.TheVariants.{Price, BadLength, OutOfRange, NoQuantity}
+use Rattle.price.specs.declared.Priced.{Priced}
+use Rattle.price.specs.declared.PriceRefusal.{PriceRefusal}
+use Rattle.price.specs.declared.PriceRefusal.TheVariants.{BadLength, OutOfRange, NoQuantity}
+
+-- a price with its count of intervals, or why there is none
+abbrev pub PriceAnswer : Type 0
+PriceAnswer = Result Priced PriceRefusal
 
 -- ---- the average, built up one interval at a time
 
@@ -44,8 +49,8 @@ module _ (pairs : List ℕ) where
 unfoldable pub answer_of : Average → PriceAnswer
 answer_of average =
     cond (average.quantity.0 == 0)
-    (NoQuantity average.count)
-    (Price (record { 0 = round_div average.value.0 average.quantity.0 }) average.count)
+    (Err (NoQuantity average.count))
+    (Ok (record { price = record { 0 = round_div average.value.0 average.quantity.0 }; count = average.count }))
 
 -- the price of so many intervals whose numbers are in range
 abbrev pub average_price : List ℕ → ℕ → PriceAnswer
@@ -63,8 +68,8 @@ load_weighted_within most pairs =
     cond (length_known most (length pairs))
     (cond (number_of (intervals_rule 0 pairs 0 (length pairs / 8)) == 0)
     (average_price pairs (length pairs / 8))
-    (OutOfRange (place_of (intervals_rule 0 pairs 0 (length pairs / 8)) / 2)))
-    BadLength
+    (Err (OutOfRange (place_of (intervals_rule 0 pairs 0 (length pairs / 8)) / 2))))
+    (Err BadLength)
 
 unfoldable pub load_weighted : List ℕ → PriceAnswer
 load_weighted pairs = load_weighted_within most_points pairs
@@ -72,26 +77,26 @@ load_weighted pairs = load_weighted_within most_points pairs
 -- ---- the paper's number, place and price of each answer: "a refusal returns price 0, and places for 1 and 11 are 0"
 
 abbrev pub answer_number : PriceAnswer → ℕ
-answer_number (Price price count) = 0
-answer_number BadLength = 1
-answer_number (OutOfRange pair) = 9
-answer_number (NoQuantity count) = 11
+answer_number (Ok priced) = 0
+answer_number (Err BadLength) = 1
+answer_number (Err (OutOfRange pair)) = 9
+answer_number (Err (NoQuantity count)) = 11
 
 abbrev pub answer_place : PriceAnswer → ℕ
-answer_place (Price price count) = 0
-answer_place BadLength = 0
-answer_place (OutOfRange pair) = pair
-answer_place (NoQuantity count) = 0
+answer_place (Ok priced) = 0
+answer_place (Err BadLength) = 0
+answer_place (Err (OutOfRange pair)) = pair
+answer_place (Err (NoQuantity count)) = 0
 
 abbrev pub answer_price : PriceAnswer → ℤ
-answer_price (Price price count) = price.0
-answer_price BadLength = pos 0
-answer_price (OutOfRange pair) = pos 0
-answer_price (NoQuantity count) = pos 0
+answer_price (Ok priced) = priced.price.0
+answer_price (Err BadLength) = pos 0
+answer_price (Err (OutOfRange pair)) = pos 0
+answer_price (Err (NoQuantity count)) = pos 0
 
 -- "(0 on a refusal for length or range)"
 abbrev pub answer_count : PriceAnswer → ℕ
-answer_count (Price price count) = count
-answer_count BadLength = 0
-answer_count (OutOfRange pair) = 0
-answer_count (NoQuantity count) = count
+answer_count (Ok priced) = priced.count
+answer_count (Err BadLength) = 0
+answer_count (Err (OutOfRange pair)) = 0
+answer_count (Err (NoQuantity count)) = count

@@ -19,9 +19,16 @@ pub struct Average {
     pub count: u32,
 }
 
-#[derive(Clone, Copy)]
-pub enum PriceAnswer {
-    Price { price: MarketPrice, count: u32 },
+// The price of an hour, and how many of its intervals have one.
+#[derive(Clone, Copy, PartialEq, Eq)]
+pub struct Priced {
+    pub price: MarketPrice,
+    pub count: u32,
+}
+
+// Why there is no price: under no quantity, how many intervals have a price is still told.
+#[derive(Clone, Copy, PartialEq, Eq)]
+pub enum PriceRefusal {
     BadLength,
     OutOfRange { pair: usize },
     NoQuantity { count: u32 },
@@ -48,29 +55,28 @@ impl Sums {
     }
 
     // One interval more: a missing price leaves its quantity out too.
-    pub fn with_interval(mut self, quantity: u32, price: u32) -> Sums
+    #[tactic(auto, unfolding(crate::specs::Sums::with_raised))]
+    pub fn with_interval(self, quantity: u32, price: u32) -> Sums
         requires value_fits { self.value.0 + 4294967295 * quantity < 2 ^ 64 }
         requires quantity_and_count_fit { (self.quantity.0 + quantity < 2 ^ 32) × (self.count + 1 < 2 ^ 32) }
         ensures { result ≡ with_raised self quantity price }
     {
-        let value = self.value;
-        let sum = self.quantity;
-        let raised = RaisedPrice(std::num::wrapping_add_u32(price, limits::MISSING_PRICE));
-        self.value = value.plus(Quantity(quantity).at_raised_price(raised));
-        self.quantity = sum.plus(Quantity(hour::counted(quantity, price)));
-        self.count += hour::present(price);
-        self
+        let raised = RaisedPrice(price.wrapping_add(limits::MISSING_PRICE));
+        Sums {
+            value: self.value + Quantity(quantity).at_raised_price(raised),
+            quantity: self.quantity + Quantity(hour::counted(quantity, price)),
+            count: self.count + hour::present(price),
+        }
     }
 
+    #[tactic(auto, unfolding(crate::specs::Sums::average_from))]
     pub fn average(self) -> Average
         requires { FitsSigned w64 (average_from self).value.0 }
         ensures { result ≡ average_from self }
     {
-        let value = self.value;
-        let quantity = self.quantity;
         Average {
-            value: value.lowered(quantity),
-            quantity,
+            value: self.value.lowered(self.quantity),
+            quantity: self.quantity,
             count: self.count,
         }
     }
@@ -83,109 +89,103 @@ fn averaged(pairs: &[u8], n: usize) -> Average
     ensures { result ≡ average_of pairs.now n }
 {
     let mut sums = Sums::empty();
-    let mut i: usize = 0;
-    while i < n {
+    for i in 0..n {
         sums = sums.with_interval(words::word(pairs, 2 * i), words::word(pairs, 2 * i + 1));
-        i += 1;
     }
     sums.average()
 }
 
 // The price of n intervals whose numbers are in range: of a file that the check accepts, or past the call's own check.
-pub fn average_price(pairs: &[u8], n: usize) -> PriceAnswer
+#[tactic(auto, unfolding(crate::specs::Price::answer_of))]
+pub fn average_price(pairs: &[u8], n: usize) -> Result<Priced, PriceRefusal>
     requires pairs_there { (n ≤ proved_intervals) × (8 * n ≤ length pairs.now) }
     requires ranged { Ranged pairs.now n }
     ensures { result ≡ average_price pairs.now n }
 {
     let average = averaged(pairs, n);
-    let quantity = average.quantity;
-    let value = average.value;
-    if quantity.0 == 0 {
-        return PriceAnswer::NoQuantity {
+    if average.quantity.0 == 0 {
+        return Err(PriceRefusal::NoQuantity {
             count: average.count,
-        };
+        });
     }
-    PriceAnswer::Price {
-        price: value.per(quantity),
+    Ok(Priced {
+        price: average.value.per(average.quantity),
         count: average.count,
-    }
+    })
 }
 
 // The price of an hour with one to `most` load points.
-fn load_weighted_within(most: usize, pairs: &[u8]) -> PriceAnswer
+#[tactic(auto, unfolding(crate::specs::Price::load_weighted_within))]
+fn load_weighted_within(most: usize, pairs: &[u8]) -> Result<Priced, PriceRefusal>
     requires { most ≤ proved_points }
     ensures { result ≡ load_weighted_within most pairs.now }
 {
     if pairs.len() % 96 != 0 {
-        return PriceAnswer::BadLength;
+        return Err(PriceRefusal::BadLength);
     }
     if pairs.len() < 96 {
-        return PriceAnswer::BadLength;
+        return Err(PriceRefusal::BadLength);
     }
     if 96 * most < pairs.len() {
-        return PriceAnswer::BadLength;
+        return Err(PriceRefusal::BadLength);
     }
     let n = pairs.len() / 8;
     let v = hour::intervals(0, pairs, 0, n);
     if verdict::number(v) != 0 {
-        return PriceAnswer::OutOfRange {
+        return Err(PriceRefusal::OutOfRange {
             pair: verdict::place(v) / 2,
-        };
+        });
     }
     average_price(pairs, n)
 }
 
 // The load-weighted price of an hour's interval pairs.
-pub fn load_weighted(pairs: &[u8]) -> PriceAnswer
+#[tactic(auto, unfolding(crate::specs::Price::load_weighted))]
+pub fn load_weighted(pairs: &[u8]) -> Result<Priced, PriceRefusal>
     ensures { result ≡ load_weighted pairs.now }
 {
     load_weighted_within(limits::MOST_POINTS, pairs)
 }
 
 // The number of the answer (docs/RULES.md, section 11).
-pub fn number(answer: PriceAnswer) -> u32
+pub fn number(answer: Result<Priced, PriceRefusal>) -> u32
     ensures { result ≡ answer_number answer }
 {
     match answer {
-        PriceAnswer::Price { price: _, count: _ } => 0,
-        PriceAnswer::BadLength => 1,
-        PriceAnswer::OutOfRange { pair: _ } => 9,
-        PriceAnswer::NoQuantity { count: _ } => 11,
+        Ok(_) => 0,
+        Err(PriceRefusal::BadLength) => 1,
+        Err(PriceRefusal::OutOfRange { .. }) => 9,
+        Err(PriceRefusal::NoQuantity { .. }) => 11,
     }
 }
 
 // The place of the answer (docs/RULES.md, section 11).
-pub fn place(answer: PriceAnswer) -> usize
+pub fn place(answer: Result<Priced, PriceRefusal>) -> usize
     ensures { result ≡ answer_place answer }
 {
     match answer {
-        PriceAnswer::Price { price: _, count: _ } => 0,
-        PriceAnswer::BadLength => 0,
-        PriceAnswer::OutOfRange { pair } => pair,
-        PriceAnswer::NoQuantity { count: _ } => 0,
+        Err(PriceRefusal::OutOfRange { pair }) => pair,
+        _ => 0,
     }
 }
 
 // The price; 0 for a refusal.
-pub fn price_of(answer: PriceAnswer) -> i32
+pub fn price_of(answer: Result<Priced, PriceRefusal>) -> i32
     ensures { result ≡ answer_price answer }
 {
     match answer {
-        PriceAnswer::Price { price, count: _ } => price.0,
-        PriceAnswer::BadLength => 0,
-        PriceAnswer::OutOfRange { pair: _ } => 0,
-        PriceAnswer::NoQuantity { count: _ } => 0,
+        Ok(priced) => priced.price.0,
+        Err(_) => 0,
     }
 }
 
 // How many intervals have a price; 0 for a refusal for length or range.
-pub fn count_of(answer: PriceAnswer) -> u32
+pub fn count_of(answer: Result<Priced, PriceRefusal>) -> u32
     ensures { result ≡ answer_count answer }
 {
     match answer {
-        PriceAnswer::Price { price: _, count } => count,
-        PriceAnswer::BadLength => 0,
-        PriceAnswer::OutOfRange { pair: _ } => 0,
-        PriceAnswer::NoQuantity { count } => count,
+        Ok(priced) => priced.count,
+        Err(PriceRefusal::NoQuantity { count }) => count,
+        Err(_) => 0,
     }
 }

@@ -1,5 +1,4 @@
 pub mod Sizes
-pub mod Rounded
 pub mod Unneeded
 pub mod PeakHours
 pub mod InCents

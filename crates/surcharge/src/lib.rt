@@ -7,7 +7,9 @@ ghost use Rattle.surcharge.specs.Surcharge.{tier_of, peak_hour, quarters, scaled
 ghost use Rattle.surcharge.specs.Surcharge.{surcharge_in_cents, credit_in_cents, greater_price, needs_price, day_of};
 ghost use Rattle.surcharge.specs.Ranges.{TermsKept, DayRanged};
 
-use units::{Cents, CentsOver400000, HubPrice, MarketPrice, Quantity};
+use units::{
+    Cents, CentsOver, CentsOver400000, CentsOver40000000, HubPrice, MarketPrice, Quantity,
+};
 
 // Up to 10 MW a shortage is of tier 1.
 const TIER_FLOOR: u32 = 10000;
@@ -106,6 +108,7 @@ pub fn price_needed(flag: u32, peak: bool, day: u32, tier: u32) -> bool
 }
 
 // The terms do not enter into it.
+#[tactic(auto, unfolding(crate::specs::Surcharge::downward_of))]
 pub fn downward(terms: Terms, quantity: Quantity, mec: MarketPrice) -> Cents
     ensures { result.0 ≡ downward_of terms quantity.0 mec.0 }
 {
@@ -116,6 +119,7 @@ pub fn downward(terms: Terms, quantity: Quantity, mec: MarketPrice) -> Cents
 }
 
 // Of the hour's own U and tier.
+#[tactic(auto, unfolding(crate::specs::Surcharge::off_peak_of))]
 pub fn off_peak(terms: Terms, upward: Quantity, tier: u32, price: MarketPrice) -> Cents
     requires terms_kept { TermsKept terms }
     requires in_range { (upward.0 ≤ most_upward) × (nat_abs price.0 ≤ most_market_price) }
@@ -124,14 +128,14 @@ pub fn off_peak(terms: Terms, upward: Quantity, tier: u32, price: MarketPrice) -
     if tier <= 1 {
         return Cents(0);
     }
-    upward
+    let scaled: CentsOver40000000 = upward
         .at_market_price(price)
-        .scaled(scaled_multiplier(terms, tier))
-        .at_least_zero()
-        .rounded()
+        .scaled(scaled_multiplier(terms, tier));
+    scaled.at_least_zero().rounded()
 }
 
 // S, over 400,000.
+#[tactic(auto, unfolding(crate::specs::Surcharge::surcharge_of))]
 fn surcharge(terms: Terms, tier: u32, most: Quantity, hub: HubPrice) -> CentsOver400000
     requires { (TermsKept terms) × ((most.0 ≤ most_upward) × (nat_abs hub.0 ≤ most_hub_price)) }
     ensures { result.0 ≡ surcharge_of terms most.0 hub.0 tier }
@@ -142,6 +146,7 @@ fn surcharge(terms: Terms, tier: u32, most: Quantity, hub: HubPrice) -> CentsOve
 }
 
 // S as it is shown on a day of this tier.
+#[tactic(auto, unfolding(crate::specs::Surcharge::surcharge_in_cents))]
 fn surcharge_in_cents(surcharge: CentsOver400000, tier: u32) -> Cents
     ensures { result.0 ≡ surcharge_in_cents surcharge.0 tier }
 {
@@ -152,6 +157,7 @@ fn surcharge_in_cents(surcharge: CentsOver400000, tier: u32) -> Cents
 }
 
 // The facts of a day with this tier, M and P.
+#[tactic(auto, unfolding(crate::specs::Surcharge::day_of))]
 pub fn day_of(terms: Terms, tier: u32, most: Quantity, hub: HubPrice) -> Day
     requires { (TermsKept terms) × ((most.0 ≤ most_upward) × (nat_abs hub.0 ≤ most_hub_price)) }
     ensures { result ≡ day_of terms tier most.0 hub.0 }
@@ -167,6 +173,7 @@ pub fn day_of(terms: Terms, tier: u32, most: Quantity, hub: HubPrice) -> Day
 }
 
 // The credit of a peak hour, over 400,000.
+#[tactic(auto, unfolding(crate::specs::Surcharge::credit_of))]
 fn credit(most: Quantity, tier: u32, price: MarketPrice) -> CentsOver400000
     requires { (most.0 ≤ most_upward) × (nat_abs price.0 ≤ most_market_price) }
     ensures { result.0 ≡ credit_of most.0 tier price.0 }
@@ -174,9 +181,10 @@ fn credit(most: Quantity, tier: u32, price: MarketPrice) -> CentsOver400000
     if tier == 0 {
         return most.at_market_price(price).over_400000();
     }
-    CentsOver400000(0)
+    CentsOver(0)
 }
 
+#[tactic(auto, unfolding(crate::specs::Surcharge::on_peak_of, crate::specs::Surcharge::credit_in_cents))]
 pub fn on_peak(day: Day, tier: u32, price: MarketPrice) -> OnPeak
     requires { (DayRanged day) × (nat_abs price.0 ≤ most_market_price) }
     ensures { (result.amount.0 ≡ on_peak_of day.surcharge.0 day.most.0 day.tier tier price.0)
@@ -191,7 +199,7 @@ pub fn on_peak(day: Day, tier: u32, price: MarketPrice) -> OnPeak
     let surcharge = day.surcharge;
     let credit = credit(day.most, tier, price);
     OnPeak {
-        amount: surcharge.minus(credit).at_least_zero().rounded(),
+        amount: (surcharge - credit).at_least_zero().rounded(),
         credit: credit.rounded(),
     }
 }
@@ -199,8 +207,5 @@ pub fn on_peak(day: Day, tier: u32, price: MarketPrice) -> OnPeak
 pub fn greater_price(a: HubPrice, b: HubPrice) -> HubPrice
     ensures { result.0 ≡ greater_price a.0 b.0 }
 {
-    if a.0 < b.0 {
-        return b;
-    }
-    a
+    a.max(b)
 }

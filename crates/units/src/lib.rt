@@ -8,16 +8,18 @@ ghost use Rattle.std.proofs.Common.{SFits};
 ghost use Rattle.exact.specs.Round.{round_div};
 ghost use Rattle.exact.specs.Floor.{at_least_zero, at_most_zero};
 
+use std::ops::{Add, Sub};
+
 // Thousandths of a MW or MWh.
-#[derive(Clone, Copy)]
+#[derive(Clone, Copy, PartialEq, Eq, PartialOrd, Ord)]
 pub struct Quantity(pub u32);
 
 // Whole cents per MWh.
-#[derive(Clone, Copy)]
+#[derive(Clone, Copy, PartialEq, Eq, PartialOrd, Ord)]
 pub struct HubPrice(pub i32);
 
 // $0.0001 per MWh.
-#[derive(Clone, Copy)]
+#[derive(Clone, Copy, PartialEq, Eq, PartialOrd, Ord)]
 pub struct MarketPrice(pub i32);
 
 // A market price as a word, 2^31 higher: never below 0, and 0 where it is the lowest of all words.
@@ -32,40 +34,81 @@ pub struct RaisedCentsOver100000(pub u64);
 #[derive(Clone, Copy)]
 pub struct Cents(pub i64);
 
-// A quantity at a hub price: cents, over 1,000.
+// Cents over PARTS, signed.
 #[derive(Clone, Copy)]
-pub struct CentsOver1000(pub i64);
+pub struct CentsOver<const PARTS: u32>(pub i64);
 
-// A quantity at a market price: cents, over 100,000.
-#[derive(Clone, Copy)]
-pub struct CentsOver100000(pub i64);
+// A quantity at a hub price.
+pub type CentsOver1000 = CentsOver<1000>;
 
-// S or a credit: cents, over 400,000, the one denominator of both.
-#[derive(Clone, Copy)]
-pub struct CentsOver400000(pub i64);
+// A quantity at a market price.
+pub type CentsOver100000 = CentsOver<100000>;
 
-// A quantity at a market price, times a multiplier of so many four-hundredths: cents, over 40,000,000.
-#[derive(Clone, Copy)]
-pub struct CentsOver40000000(pub i64);
+// S or a credit: the one denominator of both.
+pub type CentsOver400000 = CentsOver<400000>;
 
-impl Quantity {
-    pub fn plus(self, more: Quantity) -> Quantity
-        requires { self.0 + more.0 < 2 ^ 32 }
-        ensures { result.0 ≡ self.0 + more.0 }
-    {
+// A quantity at a market price, times a multiplier of so many four-hundredths.
+pub type CentsOver40000000 = CentsOver<40000000>;
+
+impl Add for Quantity {
+    type Output = Quantity;
+
+    ghost can_add = { λ x y. x.0 + y.0 < 2 ^ 32 };
+
+    ghost add_gives = { λ x y sum. sum.0 ≡ x.0 + y.0 };
+
+    fn add(self, more: Quantity) -> Quantity {
         Quantity(self.0 + more.0)
     }
+}
 
+impl Add for RaisedCentsOver100000 {
+    type Output = RaisedCentsOver100000;
+
+    ghost can_add = { λ x y. x.0 + y.0 < 2 ^ 64 };
+
+    ghost add_gives = { λ x y sum. sum.0 ≡ x.0 + y.0 };
+
+    fn add(self, more: RaisedCentsOver100000) -> RaisedCentsOver100000 {
+        RaisedCentsOver100000(self.0 + more.0)
+    }
+}
+
+impl Add for Cents {
+    type Output = Cents;
+
+    ghost can_add = { λ x y. SFits w64 (x.0 +ℤ y.0) };
+
+    ghost add_gives = { λ x y sum. sum.0 ≡ x.0 +ℤ y.0 };
+
+    fn add(self, more: Cents) -> Cents {
+        Cents(self.0 + more.0)
+    }
+}
+
+impl<const PARTS: u32> Sub for CentsOver<PARTS> {
+    type Output = CentsOver<PARTS>;
+
+    ghost can_sub = { λ x y. SFits w64 (x.0 -ℤ y.0) };
+
+    ghost sub_gives = { λ x y difference. difference.0 ≡ x.0 -ℤ y.0 };
+
+    fn sub(self, less: CentsOver<PARTS>) -> CentsOver<PARTS> {
+        CentsOver(self.0 - less.0)
+    }
+}
+
+impl Quantity {
     pub fn at_hub_price(self, price: HubPrice) -> CentsOver1000
         ensures { result.0 ≡ pos self.0 *ℤ price.0 }
     {
-        CentsOver1000(exact::product(self.0, price.0))
+        CentsOver(exact::product(self.0, price.0))
     }
 
     pub fn at_market_price(self, price: MarketPrice) -> CentsOver100000
         ensures { result.0 ≡ pos self.0 *ℤ price.0 }
     {
-        CentsOver100000(exact::product(self.0, price.0))
+        CentsOver(exact::product(self.0, price.0))
     }
 
     pub fn at_raised_price(self, price: RaisedPrice) -> RaisedCentsOver100000
@@ -76,13 +119,6 @@ impl Quantity {
 }
 
 impl RaisedCentsOver100000 {
-    pub fn plus(self, more: RaisedCentsOver100000) -> RaisedCentsOver100000
-        requires { self.0 + more.0 < 2 ^ 64 }
-        ensures { result.0 ≡ self.0 + more.0 }
-    {
-        RaisedCentsOver100000(self.0 + more.0)
-    }
-
     // What that quantity comes to at the prices themselves.
     pub fn lowered(self, quantity: Quantity) -> CentsOver100000
         requires { SFits w64 (pos self.0 -ℤ pos (2147483648 * quantity.0)) }
@@ -90,43 +126,49 @@ impl RaisedCentsOver100000 {
     {
         let raise = 2147483648 * (quantity.0 as u64);
         if self.0 < raise {
-            return CentsOver100000(0 - (raise - self.0) as i64);
+            return CentsOver(0 - (raise - self.0) as i64);
         }
-        CentsOver100000((self.0 - raise) as i64)
+        CentsOver((self.0 - raise) as i64)
     }
 }
 
-impl CentsOver1000 {
+impl<const PARTS: u32> CentsOver<PARTS> {
     // Times a multiplier of so many four-hundredths.
-    pub fn scaled(self, multiplier: u32) -> CentsOver400000
-        requires { SFits w64 (self.0 *ℤ pos multiplier) }
-        ensures { result.0 ≡ self.0 *ℤ pos multiplier }
+    pub fn scaled<const SCALED: u32>(self, multiplier: u32) -> CentsOver<SCALED>
+        requires parts_scaled { SCALED ≡ 400 * PARTS }
+        requires fits { SFits w64 (self.0 *ℤ pos multiplier) }
+        ensures { result.0 ≡ self.entry.0 *ℤ pos multiplier }
     {
-        CentsOver400000(exact::times(self.0, multiplier))
+        CentsOver(exact::times(self.0, multiplier))
+    }
+
+    pub fn at_least_zero(self) -> CentsOver<PARTS>
+        ensures { result.0 ≡ at_least_zero self.entry.0 }
+    {
+        CentsOver(exact::at_least_zero(self.0))
+    }
+
+    pub fn at_most_zero(self) -> CentsOver<PARTS>
+        ensures { result.0 ≡ at_most_zero self.entry.0 }
+    {
+        CentsOver(exact::at_most_zero(self.0))
+    }
+
+    pub fn rounded(self) -> Cents
+        requires { 0 < PARTS }
+        ensures { result.0 ≡ round_div self.entry.0 PARTS }
+    {
+        Cents(exact::round_div(self.0, PARTS))
     }
 }
 
-impl CentsOver100000 {
-    // Times a multiplier of so many four-hundredths.
-    pub fn scaled(self, multiplier: u32) -> CentsOver40000000
-        requires { SFits w64 (self.0 *ℤ pos multiplier) }
-        ensures { result.0 ≡ self.0 *ℤ pos multiplier }
-    {
-        CentsOver40000000(exact::times(self.0, multiplier))
-    }
-
+impl CentsOver<100000> {
     // The same amount over the denominator of S.
     pub fn over_400000(self) -> CentsOver400000
         requires { SFits w64 (self.0 *ℤ pos 4) }
         ensures { result.0 ≡ self.0 *ℤ pos 4 }
     {
-        CentsOver400000(exact::times(self.0, 4))
-    }
-
-    pub fn at_most_zero(self) -> CentsOver100000
-        ensures { result.0 ≡ at_most_zero self.0 }
-    {
-        CentsOver100000(exact::at_most_zero(self.0))
+        CentsOver(exact::times(self.0, 4))
     }
 
     // The price of each MWh of a quantity that costs this.
@@ -136,55 +178,5 @@ impl CentsOver100000 {
         ensures { result.0 ≡ round_div self.0 quantity.0 }
     {
         MarketPrice(exact::round_div(self.0, quantity.0) as i32)
-    }
-
-    pub fn rounded(self) -> Cents
-        ensures { result.0 ≡ round_div self.0 100000 }
-    {
-        Cents(exact::round_div(self.0, 100000))
-    }
-}
-
-impl CentsOver400000 {
-    pub fn minus(self, less: CentsOver400000) -> CentsOver400000
-        requires { SFits w64 (self.0 -ℤ less.0) }
-        ensures { result.0 ≡ self.0 -ℤ less.0 }
-    {
-        CentsOver400000(self.0 - less.0)
-    }
-
-    pub fn at_least_zero(self) -> CentsOver400000
-        ensures { result.0 ≡ at_least_zero self.0 }
-    {
-        CentsOver400000(exact::at_least_zero(self.0))
-    }
-
-    pub fn rounded(self) -> Cents
-        ensures { result.0 ≡ round_div self.0 400000 }
-    {
-        Cents(exact::round_div(self.0, 400000))
-    }
-}
-
-impl CentsOver40000000 {
-    pub fn at_least_zero(self) -> CentsOver40000000
-        ensures { result.0 ≡ at_least_zero self.0 }
-    {
-        CentsOver40000000(exact::at_least_zero(self.0))
-    }
-
-    pub fn rounded(self) -> Cents
-        ensures { result.0 ≡ round_div self.0 40000000 }
-    {
-        Cents(exact::round_div(self.0, 40000000))
-    }
-}
-
-impl Cents {
-    pub fn plus(self, more: Cents) -> Cents
-        requires { SFits w64 (self.0 +ℤ more.0) }
-        ensures { result.0 ≡ self.0 +ℤ more.0 }
-    {
-        Cents(self.0 + more.0)
     }
 }

@@ -15,8 +15,8 @@ use Rattle.limits.specs.Editions.{most_held}
 use Rattle.recording.specs.declared.Place.{Place}
 use Rattle.recording.specs.declared.Record.{Record}
 use Rattle.recording.specs.Record.{place, entries, record_of, kept, marked, marked_all, Sound, answered}
-use Rattle.recording.proofs.InPlace.{marked_below, marked_same, marked_above, answer_marked, answer_refused, refused_full, marked_room}
-use Rattle.recording.proofs.Lists.{kept_out, kept_in, kept_most, listed_of, entries_of_lem}
+use Rattle.recording.proofs.InPlace.{marked_below, marked_same, marked_above, listed_of, entries_of_lem, answer_marked, answer_refused, refused_full, marked_room}
+use Rattle.recording.proofs.Lists.{kept_out, kept_in, kept_most}
 
 all_append : (xs ys : List ℕ) (l : List Place) → marked_all (xs ++ ys) l ≡ marked_all ys (marked_all xs l)
 unfolding marked_all

@@ -1,5 +1,5 @@
 -- The laws of a mark in its place: what stands before it, the place itself, and what stands behind it.
-use Rattle.std.proofs.Common.{◌≡◌, ℕ, zero, suc, ◌+◌, ◌-◌, ◌<◌, ◌≤◌, List, [], ◌∷◌, ◌++◌, length, take, drop, get_or, refl, ap, add-one, Option, Some, None}
+use Rattle.std.proofs.Common.{◌≡◌, ℕ, zero, suc, ◌+◌, ◌-◌, ◌<◌, ◌≤◌, List, [], ◌∷◌, ◌++◌, length, take, drop, get_or, refl, sym, ap, ap₂, ◌∙◌, add-one, Option, Some, None}
 use Rattle.std.proofs.Common.{arith, length-append, length-take, length-drop}
 use Rattle.std.specs.List.{position, position_or_len}
 use Rattle.std.specs.Option.{unwrap_or}
@@ -8,11 +8,24 @@ use Rattle.std.proofs.lemmas.Grind.{common_steps}
 use mathlib.Core.Logic.{dite}
 use native.Mathlib.Decide.{dec_lt}
 use lib.Dec.{leb}
+use lib.ListN.{replicate}
+use lib.Seq.{take-append_seam}
 use borrow.Author.Tests.{lt-ltb, le-ltb, eq-eqb, ne_eqb}
 use Rattle.limits.specs.Editions.{most_held}
 use Rattle.recording.specs.declared.Place.{Place}
 use Rattle.recording.specs.declared.Record.{Record}
-use Rattle.recording.specs.Record.{place, record_of, marked, answered}
+use Rattle.recording.specs.Record.{place, entries, record_of, marked, answered}
+
+-- ---- a record and its list
+
+pub entries_of_lem : (last : ℕ) (l : List Place) → entries (record_of last l) ≡ l
+entries_of_lem last l = take-append_seam l (replicate (most_held - length l) (place 0 0))
+
+-- the record of a list is the record of its own entries
+pub listed_of : (r : Record) (last : ℕ) (l : List Place) → r ≡ record_of last l → r ≡ record_of r.last (entries r)
+listed_of r last l e = e ∙ ap₂ record_of (sym (ap (λ s. s.last) e)) (sym (ap entries e ∙ entries_of_lem last l))
+
+-- ---- the place of an area
 
 module _ (area : ℕ) where
   -- how many areas stand before an area's place

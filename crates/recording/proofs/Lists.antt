@@ -4,7 +4,7 @@ use Rattle.std.proofs.Common.{arith, append_assoc, append-nil, length-append, le
 use Rattle.std.proofs.lemmas.List.{take_more}
 use Rattle.std.proofs.lemmas.Grind.{common_steps}
 use lib.ListN.{replicate, length-map}
-use lib.Seq.{set-append_seam, take-append_seam}
+use lib.Seq.{set-append_seam}
 use borrow.Author.Tests.{eq-eqb, ne_eqb}
 use Rattle.marks.specs.Marks.{aged}
 use Rattle.limits.specs.Editions.{most_held}
@@ -19,13 +19,6 @@ length_mapped f l n e = sym (length-map l f) ∙ e
 -- the list is as long as the record says
 pub entries_long : (r : Record) → length r.places ≡ most_held → r.held ≤ most_held → length (entries r) ≡ r.held
 entries_long r full few = omega (arith, length-take r.held r.places)
-
-pub entries_of_lem : (last : ℕ) (l : List Place) → entries (record_of last l) ≡ l
-entries_of_lem last l = take-append_seam l (replicate (most_held - length l) (place 0 0))
-
--- the record of a list is the record of its own entries
-pub listed_of : (r : Record) (last : ℕ) (l : List Place) → r ≡ record_of last l → r ≡ record_of r.last (entries r)
-listed_of r last l e = e ∙ ap₂ record_of (sym (ap (λ s. s.last) e)) (sym (ap entries e ∙ entries_of_lem last l))
 
 -- ---- places pushed
 

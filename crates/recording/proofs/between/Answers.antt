@@ -1,6 +1,7 @@
 use Rattle.std.proofs.Common.{◌≡◌, ◌++◌, ◌∷◌, [], arith, ◌∙◌, ap, length-append, append_assoc}
 use Rattle.recording.specs.Record.{record_of, entries, pushed}
-use Rattle.recording.proofs.Lists.{push_list, listed_of, entries_of_lem}
+use Rattle.recording.proofs.Lists.{push_list}
+use Rattle.recording.proofs.InPlace.{entries_of_lem, listed_of}
 use Rattle.recording.proofs.between.Goals as goal
 
 with_it : (c : goal.After-push) → c.push.result ≡ record_of c.args.last (c.args.before.now ++ (c.args.added ∷ []))

@@ -1,0 +1,7 @@
+use Rattle.std.proofs.Common.{◌≡◌, ℕ, ◌<◌, get_or}
+use Rattle.recording.specs.Record.{place}
+use Rattle.record_words.specs.Words.{place_in}
+use Rattle.record_words.proofs.record_of.Given as goal
+
+abbrev pub invariant-loop-k : goal.invariant-loop-k
+invariant-loop-k l = (j : ℕ) → j < l.k → place_in l.words j ≡ get_or l.places j (place 0 0)

@@ -1,24 +1,22 @@
 -- An entry by its steps: a refusal leaves the record as it was; past 18 the record is aged and the areas of the day are marked, or there are too many.
 use Prim.Native.Nat.{ℕ, ◌≤◌}
-use mathlib.Core.Bool.{true, false}
+use Rattle.std.proofs.Common.{Option, Some, None}
 use mathlib.Core.List.{List}
 use mathlib.Core.Path.{◌≡◌, sym, ap, ap₂, ◌∙◌}
 use native.Mathlib.Omega.{arith}
-use lib.Dec.{leb, ltb}
+use lib.Dec.{leb}
 use lib.ListN.{length}
-use borrow.Author.Tests.{le-leb, lt-leb, leb-true, eq-eqb, ne_eqb, ltb-true, ltb-false}
+use borrow.Author.Tests.{le-leb, lt-leb, leb-true, eq-eqb, ne_eqb}
 use Rattle.limits.specs.Editions.{most_held}
 use Rattle.verdict.specs.declared.Refusal.TheVariants.{TooManyAreas}
 use Rattle.verdict.specs.Verdict.{number_of, Accepted, Verdict}
 use Rattle.verdict.proofs.First.{or_first, or_second, or_next}
 use Rattle.verdict.proofs.First.{kept as rule_kept}
-use Rattle.contents.specs.File.{day_of}
-use Rattle.marking.specs.Marked.{marked_areas}
+use Rattle.contents.specs.File.{day_of, areas_of}
+use Rattle.marking.specs.Marked.{marked_from}
 use Rattle.recording.specs.declared.Record.{Record}
-use Rattle.recording.specs.declared.Marking.{Marking}
 use Rattle.recording.specs.Record.{entries, record_of, kept, marked_all, answered}
-use Rattle.recording.proofs.InPlace.{entries_of_lem}
-use Rattle.recording.proofs.AllMarked.{pick_second}
+use Rattle.recording.proofs.InPlace.{entries_of_lem, refused_full, marked_room}
 use Rattle.dayfile.specs.Check.{check_of}
 use Rattle.record_check.specs.Left.{record_rule, days_between}
 use Rattle.entering.specs.Enter.{answer_with, held_then, room_rule, enter_of, record_after, answered_by, entered}
@@ -28,27 +26,29 @@ module _ (r : Record) (file : List ℕ) where
   unfolding record_after
   refused_so v h = rw (ne_eqb (number_of v) 0 h)
 
-  -- the record aged, and then the areas of the day marked
-  module _ (aged : Record) (next : Marking) (stands : aged ≡ record_of (day_of file) (kept (days_between r (day_of file)) (entries r)))
-      (came : next ≡ answered aged.last aged (marked_all (marked_areas file) (entries aged))) where
-    all : marked_all (marked_areas file) (entries aged) ≡ held_then r file
-    all = ap (marked_all (marked_areas file)) (ap entries stands ∙ entries_of_lem (day_of file) _)
+  -- the record on the day of the file
+  pub aged_on : (aged : Record) (date g : ℕ) → aged ≡ record_of date (kept g (entries r)) → g ≡ days_between r date → date ≡ day_of file
+      → aged ≡ record_of (day_of file) (kept (days_between r (day_of file)) (entries r))
+  aged_on aged date g e f h = e ∙ ap₂ (λ d n. record_of d (kept n (entries r))) h (f ∙ ap (days_between r) h)
 
-    many : next.refused ≡ ltb most_held (length (held_then r file))
-    many = ap (λ m. m.refused) came ∙ ap (λ l. ltb most_held (length l)) all
+  -- and then the areas of the day marked
+  module _ (aged : Record) (next : Option Record) (n : ℕ) (stands : aged ≡ record_of (day_of file) (kept (days_between r (day_of file)) (entries r)))
+      (came : next ≡ answered aged.last (marked_all (marked_from file 0 n) (entries aged))) (all : n ≡ areas_of file) where
+    then-is : next ≡ answered (day_of file) (held_then r file)
+    then-is =
+        came
+        ∙ ap₂ answered (ap (λ s. s.last) stands)
+        (ap₂ (λ m l. marked_all (marked_from file 0 m) l) all (ap entries stands ∙ entries_of_lem (day_of file) _))
 
-    pub too_many : next.refused ≡ true → answer_with TooManyAreas r ≡ answered_by r file (room_rule r file)
+    pub too_many : next ≡ None → answer_with TooManyAreas r ≡ answered_by r file (room_rule r file)
     unfolding room_rule record_after
-    too_many t = rw (lt-leb (length (held_then r file)) most_held (ltb-true most_held (length (held_then r file)) (sym many ∙ t)))
+    too_many e = rw (lt-leb (length (held_then r file)) most_held (refused_full (day_of file) (held_then r file) (sym e ∙ then-is)))
 
-    pub taken : next.refused ≡ false → answer_with Accepted next.after ≡ answered_by r file (room_rule r file)
+    pub taken : (after : Record) → next ≡ Some after → answer_with Accepted after ≡ answered_by r file (room_rule r file)
     unfolding room_rule record_after
-    taken t =
-        rw (le-leb (length (held_then r file)) most_held (ltb-false most_held (length (held_then r file)) (sym many ∙ t)))
-        (ap (answer_with Accepted)
-        (ap (λ m. m.after) came
-        ∙ pick_second (ltb most_held (length (marked_all (marked_areas file) (entries aged)))) aged _ (sym (ap (λ m. m.refused) came) ∙ t)
-        ∙ ap₂ record_of (ap (λ s. s.last) stands) all))
+    taken after e =
+        let room = marked_room (day_of file) (held_then r file) after (sym e ∙ then-is) in
+        rw (le-leb (length (held_then r file)) most_held room.0) (ap (answer_with Accepted) room.1)
 
 -- ---- what an accepted entry says
 

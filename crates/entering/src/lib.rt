@@ -11,7 +11,7 @@ ghost use Rattle.record_check.specs.Left.{admit_rule};
 ghost use Rattle.settlement.specs.SoundFile.{SoundFile};
 ghost use Rattle.entering.specs.Enter.{answer_with, room_rule, answered_by, entered};
 
-use recording::{Marking, Record};
+use recording::Record;
 use verdict::Refusal;
 
 // The answer of an entry, and the record afterwards: a refusal leaves it as it was.
@@ -32,31 +32,17 @@ fn refuse(answer: Verdict, given: Record) -> Entered
 }
 
 // The day marked for each area of the file that failed, for all of them or for none.
-fn mark_areas(given: Record, file: &[u8], n: usize) -> Marking
+fn mark_areas(given: Record, file: &[u8], n: usize) -> Option<Record>
     requires { (Sound (2 ^ recorded_days) given) × (SoundFile file.now) × (n ≡ areas_of file.now) }
-    ensures { result ≡ answered given.last given (marked_all (marked_from file.now 0 n) (entries given)) }
+    ensures { result ≡ answered given.last (marked_all (marked_from file.now 0 n) (entries given)) }
 {
     let mut so_far = given;
-    let mut k: usize = 0;
-    while k < n {
+    for k in 0..n {
         if marking::marked(contents::body_at(file, k)) {
-            let next = recording::mark(so_far, words::word(file, 4 + 3 * k));
-            let refused = next.refused;
-            if refused {
-                return Marking {
-                    refused: true,
-                    after: given,
-                };
-            }
-            let after = next.after;
-            so_far = after;
+            so_far = recording::mark(so_far, words::word(file, 4 + 3 * k))?;
         }
-        k += 1;
     }
-    Marking {
-        refused: false,
-        after: so_far,
-    }
+    Some(so_far)
 }
 
 // Past 18: the record moves on to the day of the file, and the areas that failed are marked, or 19.
@@ -67,12 +53,9 @@ fn enter_after(given: Record, file: &[u8]) -> Entered
     let date = words::word(file, 1);
     let n = words::word(file, 2) as usize;
     let aged = recording::age_all(given, date, record_check::gap(given, date));
-    let next = mark_areas(aged, file, n);
-    let refused = next.refused;
-    if refused {
+    let Some(after) = mark_areas(aged, file, n) else {
         return refuse(Verdict::TooManyAreas, given);
-    }
-    let after = next.after;
+    };
     Entered {
         answer: Verdict::Accepted,
         after,

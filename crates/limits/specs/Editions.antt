@@ -1,5 +1,5 @@
 -- The bounds of each edition of the day file, and of a file by its first word.
-use Rattle.std.specs.Prelude.{ℕ, ◌+◌, ◌*◌, ◌≤◌, Bool, true, not, ◌||◌, ◌≡◌, eqb, leb}
+use Rattle.std.specs.Prelude.{ℕ, ◌+◌, ◌*◌, ◌≤◌, Bool, true, ◌≡◌, eqb, leb, Option, Some, None}
 use Rattle.limits.specs.declared.Limits.{Limits}
 use Rattle.limits.specs.Ranges.{proved_areas, proved_points, proved_words, least_body_words}
 
@@ -18,7 +18,7 @@ abbrev pub most_bytes : ℕ
 most_bytes = 65536
 
 unfoldable pub edition_one : Limits
-edition_one = record { areas = most_areas; points = most_points; words = 2951; bounded = true; bytes = most_bytes }
+edition_one = record { areas = most_areas; points = most_points; words = 2951; bytes = Some most_bytes }
 
 -- "Word 0: edition, 1"
 abbrev pub edition_known : ℕ → Bool
@@ -37,11 +37,15 @@ limits_of edition = edition_one
 
 -- ---- bytes: the bound can be absent
 
+abbrev pub within : Option ℕ → ℕ → Bool
+within (Some most) bytes = leb bytes most
+within None bytes = true
+
 abbrev pub bytes_allowed : Limits → ℕ → Bool
-bytes_allowed limits bytes = not limits.bounded || leb bytes limits.bytes
+bytes_allowed limits bytes = within limits.bytes bytes
 
 abbrev pub WithinBytes : Limits → ℕ → Type 0
-WithinBytes limits bytes = limits.bounded ≡ true → bytes ≤ limits.bytes
+WithinBytes limits bytes = (most : ℕ) → limits.bytes ≡ Some most → bytes ≤ most
 
 -- ---- limits within the limits of the proofs
 

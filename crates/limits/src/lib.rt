@@ -61,7 +61,7 @@ pub const MOST_POINTS: usize = 2;
 
 pub const MOST_BYTES: usize = 65536;
 
-#[derive(Clone, Copy)]
+#[derive(Clone, Copy, PartialEq, Eq, Debug)]
 pub struct Limits {
     // the most areas in a file
     pub areas: u32,
@@ -69,11 +69,11 @@ pub struct Limits {
     pub points: u32,
     // the most words in a body
     pub words: u32,
-    // whether the bytes of a file are bounded, and the most that they may then be
-    pub bounded: bool,
-    pub bytes: usize,
+    // the most bytes in a file; none: the contents alone bound them
+    pub bytes: Option<usize>,
 }
 
+#[tactic(auto, unfolding(crate::specs::Editions::edition_one))]
 pub fn edition_one() -> Limits
     ensures { result ≡ edition_one }
 {
@@ -81,12 +81,12 @@ pub fn edition_one() -> Limits
         areas: MOST_AREAS as u32,
         points: MOST_POINTS as u32,
         words: 2951,
-        bounded: true,
-        bytes: MOST_BYTES,
+        bytes: Some(MOST_BYTES),
     }
 }
 
 // The limits of a file by its first word. Edition 1 is the only one.
+#[tactic(auto, unfolding(crate::specs::Editions::limits_of))]
 pub fn limits_of(edition: u32) -> Limits
     ensures { result ≡ limits_of edition }
 {
@@ -96,8 +96,5 @@ pub fn limits_of(edition: u32) -> Limits
 pub fn allows(limits: Limits, bytes: usize) -> bool
     ensures { result ≡ bytes_allowed limits bytes }
 {
-    if !limits.bounded {
-        return true;
-    }
-    bytes <= limits.bytes
+    limits.bytes.is_none_or(|most| bytes <= most)
 }

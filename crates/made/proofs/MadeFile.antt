@@ -95,7 +95,7 @@ module _ (deficiency : ℕ) (low-enough : deficiency ≤ most_deficiency) where
           few = omega (arith, count, may.few, widest_room.areas);
           peak_known = inl refl;
           area = λ k h. good-area k (omega (arith, h, count));
-          fits = λ b. rw count (omega (arith, words n (omega arith), may.few, widest_room.bytes b));
+          fits = λ most e. rw count (omega (arith, words n (omega arith), may.few, widest_room.bytes most e));
         }
 
     abbrev front : Below 4294967296 (front_of widest_edition date 0 made)

@@ -8,6 +8,7 @@ ghost use Rattle.marks.specs.Marks.{aged, counted};
 pub const MARKS_END: u32 = 1073741824;
 
 // The marks g days later.
+#[tactic(auto, using(crate::proofs::Bits::aged_gone, crate::proofs::Bits::aged_small, crate::proofs::Bits::aged_start, crate::proofs::Bits::aged_next))]
 pub fn age(marks: u32, g: u32) -> u32
     ensures { result ≡ aged marks g }
 {
@@ -15,15 +16,14 @@ pub fn age(marks: u32, g: u32) -> u32
         return 0;
     }
     let mut left = marks % MARKS_END;
-    let mut k = 0;
-    while k < g {
+    for _ in 0..g {
         left = left * 2 % MARKS_END;
-        k += 1;
     }
     left
 }
 
 // d for a day g days after the last one.
+#[tactic(auto, using(crate::proofs::Bits::bits_next, crate::proofs::Bits::left_next, crate::proofs::Bits::bits_most), unfolding(crate::specs::Marks::bits_below))]
 pub fn count(marks: u32, g: u32) -> u32
     ensures { result ≡ counted marks g }
 {
@@ -32,11 +32,9 @@ pub fn count(marks: u32, g: u32) -> u32
     }
     let mut set = 0;
     let mut left = marks;
-    let mut i = 0;
-    while i < limits::RECORDED_DAYS + 1 - g {
+    for _ in 0..limits::RECORDED_DAYS + 1 - g {
         set += left % 2;
-        left = left / 2;
-        i += 1;
+        left /= 2;
     }
     set
 }

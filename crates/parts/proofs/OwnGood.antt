@@ -125,7 +125,7 @@ module _ (limits : Limits) (edition day peak : ℕ) (areas others : List Area) (
         few = omega (arith, same, good.few);
         peak_known = good.peak_known;
         area = λ k h. by k (omega (arith, h, same));
-        fits = λ bounded. rw same (omega (arith, good.fits bounded, words-too (length areas) (omega arith)));
+        fits = λ most e. rw same (omega (arith, good.fits most e, words-too (length areas) (omega arith)));
       }
     where
       by : (k : ℕ) → k < length areas → GoodArea limits others k

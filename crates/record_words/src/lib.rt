@@ -13,12 +13,10 @@ pub fn record_of(words: [u32; RECORD_WORDS]) -> Record
     ensures { Says words result }
 {
     let mut places = [Place { area: 0, marks: 0 }; limits::MOST_HELD];
-    let mut k: usize = 0;
-    while k < limits::MOST_HELD {
+    for k in 0..limits::MOST_HELD {
         let area = words[2 + 2 * k];
         let marks = words[3 + 2 * k];
         places[k] = Place { area, marks };
-        k += 1;
     }
     Record {
         last: words[0],
@@ -31,16 +29,13 @@ pub fn record_of(words: [u32; RECORD_WORDS]) -> Record
 pub fn words_of(given: Record) -> [u32; RECORD_WORDS]
     ensures { Says result given }
 {
-    let places = given.places;
     let mut words = [0u32; RECORD_WORDS];
     words[0] = given.last;
     words[1] = given.held;
-    let mut k: usize = 0;
-    while k < limits::MOST_HELD {
-        let p = places[k];
+    for k in 0..limits::MOST_HELD {
+        let p = given.places[k];
         words[2 + 2 * k] = p.area;
         words[3 + 2 * k] = p.marks;
-        k += 1;
     }
     words
 }

@@ -1,9 +1,7 @@
 -- The areas of a day marked one after the other: each turn, how long the list grows, and how large the marks.
 use Prim.Native.Nat.{ℕ, zero, suc, ◌+◌, ◌-◌, ◌^◌, ◌<◌, ◌≤◌}
 use mathlib.Core.Path.{◌≡◌, refl, sym, ap, ap₂, subst, ◌∙◌}
-use mathlib.Core.Bool.{Bool, true, false}
-use lib.Dec.{ltb}
-use borrow.Author.Tests.{ltb-true, ltb-false}
+use Rattle.std.proofs.Common.{Option, Some, None}
 use mathlib.Core.List.{List, [], ◌∷◌, ◌++◌}
 use mathlib.Core.Logic.{dite}
 use native.Mathlib.Decide.{dec_lt, ℕ_discrete}
@@ -16,9 +14,8 @@ use Rattle.limits.specs.Ranges.{recorded_days}
 use Rattle.limits.specs.Editions.{most_held}
 use Rattle.recording.specs.declared.Place.{Place}
 use Rattle.recording.specs.declared.Record.{Record}
-use Rattle.recording.specs.declared.Marking.{Marking}
-use Rattle.recording.specs.Record.{place, entries, record_of, kept, marked, marked_all, Sound, pick, answer, answered}
-use Rattle.recording.proofs.InPlace.{marked_below, marked_same, marked_above, listed_of, entries_of_lem, answer_marked, answer_refused}
+use Rattle.recording.specs.Record.{place, entries, record_of, kept, marked, marked_all, Sound, answered}
+use Rattle.recording.proofs.InPlace.{marked_below, marked_same, marked_above, listed_of, entries_of_lem, answer_marked, answer_refused, refused_full, marked_room}
 use Rattle.recording.proofs.Lists.{kept_out, kept_in, kept_most}
 
 all_append : (xs ys : List ℕ) (l : List Place) → marked_all (xs ++ ys) l ≡ marked_all ys (marked_all xs l)
@@ -102,10 +99,6 @@ aged_sound g last given aged few e =
     sound_of (2 ^ recorded_days) last (kept g (entries given)) aged e
     (omega (arith, kept_most g (entries given), length-take given.held given.places)) (omega arith) (small_kept g (entries given))
 
-pub pick_second : (t : Bool) (r s : Record) → t ≡ false → pick t r s ≡ s
-pick_second true r s e = let z : ◌≡◌ {A = ℕ} 0 1 = cc in absurd (omega arith)
-pick_second false r s e = refl
-
 -- ---- the areas of a day, marked one after the other
 
 -- some areas are marked, and the marks are below a bound
@@ -134,7 +127,7 @@ module _ (given : Record) (areas : List ℕ) (least : ℕ) (now : Record) (so_fa
   passed_over = record { stands = so_far.stands; few = so_far.few; small = small_more least (least + 1) _ (omega arith) so_far.small }
 
   -- one area more
-  module _ (area : ℕ) (next : Marking) (came : next ≡ answered now.last now (marked area (entries now))) where
+  module _ (area : ℕ) (next : Option Record) (came : next ≡ answered now.last (marked area (entries now))) where
     abbrev with_it : List ℕ
     with_it = areas ++ (area ∷ [])
 
@@ -144,27 +137,21 @@ module _ (given : Record) (areas : List ℕ) (least : ℕ) (now : Record) (so_fa
         ap (marked area) (ap entries so_far.stands ∙ entries_of_lem given.last (marked_all areas (entries given)))
         ∙ sym (all_append areas (area ∷ []) (entries given))
 
-    many : next.refused ≡ ltb most_held (length (marked_all with_it (entries given)))
-    many = ap (λ m. m.refused) came ∙ ap (λ l. ltb most_held (length l)) grown
-
     -- a list never grows shorter, so a refusal is one for the whole
-    pub none_marked : next.refused ≡ true → (more : List ℕ)
-        → answer true given ≡ answered given.last given (marked_all (with_it ++ more) (entries given))
-    none_marked t more =
-        answer_refused given.last given (marked_all (with_it ++ more) (entries given))
-        (omega (arith, ltb-true most_held (length (marked_all with_it (entries given))) (sym many ∙ t), longer_part with_it more (entries given)))
+    pub none_marked : next ≡ None → (more : List ℕ) → None ≡ answered given.last (marked_all (with_it ++ more) (entries given))
+    none_marked e more =
+        let full = refused_full now.last (marked area (entries now)) (sym e ∙ came) in
+        answer_refused given.last (marked_all (with_it ++ more) (entries given)) (omega (arith, ap length grown, longer_part with_it more (entries given)))
 
-    pub one_marked : 1 ≤ least → next.refused ≡ false → SoFar given with_it (least + 1) next.after
+    pub one_marked : 1 ≤ least → (after : Record) → next ≡ Some after → SoFar given with_it (least + 1) after
     unfolding marked_all
-    one_marked h t =
+    one_marked h after e =
+        let room = marked_room now.last (marked area (entries now)) after (sym e ∙ came) in
         record {
-          stands =
-              ap (λ m. m.after) came
-              ∙ pick_second (ltb most_held (length (marked area (entries now)))) now _ (sym (ap (λ m. m.refused) came) ∙ t)
-              ∙ ap₂ record_of (ap (λ r. r.last) so_far.stands) grown;
-          few = ltb-false most_held (length (marked_all with_it (entries given))) (sym many ∙ t);
+          stands = room.1 ∙ ap₂ record_of (ap (λ r. r.last) so_far.stands) grown;
+          few = rw (← grown) room.0;
           small = rw (all_append areas (area ∷ []) (entries given)) (small_marked least area (marked_all areas (entries given)) h so_far.small);
         }
 
-  pub all_marked : answer false now ≡ answered given.last given (marked_all areas (entries given))
-  all_marked = answer_marked given.last given (marked_all areas (entries given)) now so_far.few so_far.stands
+  pub all_marked : Some now ≡ answered given.last (marked_all areas (entries given))
+  all_marked = answer_marked given.last (marked_all areas (entries given)) now so_far.few so_far.stands

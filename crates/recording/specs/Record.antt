@@ -1,10 +1,9 @@
 -- The record: the last day entered, and the areas with a marked day, rising, each with its marks (docs/RULES.md, section 12).
-use Rattle.std.specs.Prelude.{ℕ, suc, ◌+◌, ◌-◌, ◌≤◌, ◌<◌, ◌≡◌, Bool, true, false, cond, List, [], ◌∷◌, ◌++◌, eqb, ltb, length, take, get_or, set, replicate}
+use Rattle.std.specs.Prelude.{ℕ, ◌+◌, ◌-◌, ◌≤◌, ◌<◌, ◌≡◌, Bool, true, false, cond, List, [], ◌∷◌, ◌++◌, eqb, ltb, length, take, get_or, set, replicate, Option, Some, None}
 use Rattle.limits.specs.Editions.{most_held}
 use Rattle.marks.specs.Marks.{aged}
 use Rattle.recording.specs.declared.Place.{Place}
 use Rattle.recording.specs.declared.Record.{Record}
-use Rattle.recording.specs.declared.Marking.{Marking}
 
 abbrev pub place : ℕ → ℕ → Place
 place area marks = record { area = area; marks = marks }
@@ -45,24 +44,16 @@ marked_all (area ∷ areas) l = marked_all areas (marked area l)
 abbrev pub pushed : Record → Place → Record
 pushed r p = record { last = r.last; held = r.held + 1; places = set r.places r.held p }
 
--- how many areas stand before an area's place
-unfoldable pub leading : ℕ → List Place → ℕ
-leading area [] = 0
-leading area (p ∷ l) = cond (ltb p.area area) (suc (leading area l)) 0
-
 -- a record that is the record of a list of areas that it has room for, each with marks below `most`
 pub record Sound (most : ℕ) (r : Record) : Type 0 where
   pub few : r.held ≤ most_held
   pub listed : r ≡ record_of r.last (entries r)
   pub small : (i : ℕ) → (get_or r.places i (place 0 0)).marks < most
 
-abbrev pub answer : Bool → Record → Marking
-answer refused after = record { refused = refused; after = after }
-
 abbrev pub pick : Bool → Record → Record → Record
 pick true r s = r
 pick false r s = s
 
--- the record of a list; where a record has no room for it, refused, and the record as it was
-abbrev pub answered : ℕ → Record → List Place → Marking
-answered last r l = let many = ltb most_held (length l) in answer many (pick many r (record_of last l))
+-- the record of a list; none where a record has no room for it
+abbrev pub answered : ℕ → List Place → Option Record
+answered last l = cond (ltb most_held (length l)) None (Some (record_of last l))

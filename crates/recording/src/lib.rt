@@ -2,30 +2,23 @@
 // marked in it.
 #![tactic(auto)]
 
-ghost use Rattle.std.specs.Prelude.{◌≡◌, [], ◌++◌, take, drop, ◌+◌, ◌-◌, ◌≤◌, ◌<◌};
+ghost use Rattle.std.specs.Prelude.{◌≡◌, [], ◌∷◌, ◌++◌, ◌+◌, ◌≤◌, ◌<◌, length, leb, eqb, find, position};
 ghost use Rattle.limits.specs.Editions.{most_held};
-ghost use Rattle.recording.specs.Record.{place, entries, record_of, pushed, kept, leading, marked, marks_of, Sound, answered};
+ghost use Rattle.recording.specs.Record.{place, entries, record_of, pushed, kept, marked, marks_of, Sound, answered};
 
-#[derive(Clone, Copy)]
+#[derive(Clone, Copy, PartialEq, Eq, Debug)]
 pub struct Place {
     pub area: u32,
     pub marks: u32,
 }
 
 // Places behind the areas held are 0, 0.
-#[derive(Clone, Copy)]
+#[derive(Clone, Copy, PartialEq, Eq, Debug)]
 pub struct Record {
     // YYYYMMDD; 0 where no day was entered
     pub last: u32,
     pub held: u32,
     pub places: [Place; limits::MOST_HELD],
-}
-
-// What marking gives: where it is refused, the record as it was.
-#[derive(Clone, Copy)]
-pub struct Marking {
-    pub refused: bool,
-    pub after: Record,
 }
 
 pub fn empty(last: u32) -> Record
@@ -38,18 +31,34 @@ pub fn empty(last: u32) -> Record
     }
 }
 
-fn push(given: Record, area: u32, marks: u32) -> Record
+fn push(given: Record, added: Place) -> Record
     requires { given.held < most_held }
-    ensures { result ≡ pushed given (place area marks) }
+    ensures { result ≡ pushed given added }
 {
-    let mut places = given.places;
-    let held = given.held;
-    places[held as usize] = Place { area, marks };
-    Record {
-        last: given.last,
-        held: held + 1,
-        places,
+    let mut longer = given;
+    longer.places[given.held as usize] = added;
+    longer.held += 1;
+    longer
+}
+
+// Some places, pushed on a record.
+fn extended(onto: Record, places: &[Place]) -> Record
+    requires { (onto.held + length places.now ≤ most_held) × (onto ≡ record_of onto.last (entries onto)) }
+    ensures { result ≡ record_of onto.last (entries onto ++ places.now) }
+{
+    let mut longer = onto;
+    for p in places {
+        longer = push(longer, *p);
     }
+    longer
+}
+
+// A place between two runs of places.
+fn between(last: u32, before: &[Place], added: Place, behind: &[Place]) -> Record
+    requires { length before.now + 1 + length behind.now ≤ most_held }
+    ensures { result ≡ record_of last (before.now ++ (added ∷ behind.now)) }
+{
+    extended(push(extended(empty(last), before), added), behind)
 }
 
 // The record g days later, on the day `date`, of which no area is marked.
@@ -57,85 +66,61 @@ pub fn age_all(given: Record, date: u32, g: u32) -> Record
     requires { given.held ≤ most_held }
     ensures { result ≡ record_of date (kept g (entries given)) }
 {
-    let places = given.places;
-    let held = given.held as usize;
     let mut out = empty(date);
-    let mut i = 0;
-    while i < held {
-        let p = places[i];
+    for p in &given.places[..given.held as usize] {
         let marks = marks::age(p.marks, g);
         if marks != 0 {
-            out = push(out, p.area, marks);
+            out = push(
+                out,
+                Place {
+                    area: p.area,
+                    marks,
+                },
+            );
         }
-        i += 1;
     }
     out
 }
 
-// How many areas stand before an area's place.
-fn place_of(given: Record, area: u32) -> usize
-    requires { given.held ≤ most_held }
-    ensures { result ≡ leading area (entries given) }
+// The first of some places that an area does not stand behind.
+fn place_of(places: &[Place], area: u32) -> Option<usize>
+    ensures { result ≡ position (λ p. leb area p.area) places.now }
 {
-    let places = given.places;
-    let held = given.held as usize;
-    let mut k = 0;
-    while k < held {
-        let p = places[k];
-        if area <= p.area {
-            return k;
-        }
-        k += 1;
-    }
-    k
+    places.iter().position(|p| area <= p.area)
 }
 
-// The places from .. to - 1 of one record, pushed on another.
-fn copied(onto: Record, given: Record, from: usize, to: usize) -> Record
-    requires { (from ≤ to) × (to ≤ most_held) × (onto.held + (to - from) ≤ most_held) × (onto ≡ record_of onto.last (entries onto)) }
-    ensures { result ≡ record_of onto.last (entries onto ++ take (to - from) (drop from given.places)) }
+// The first of some places with an area.
+fn held(places: &[Place], area: u32) -> Option<Place>
+    ensures { result ≡ find (λ p. eqb p.area area) places.now }
 {
-    let places = given.places;
-    let mut out = onto;
-    let mut i = from;
-    while i < to {
-        let p = places[i];
-        out = push(out, p.area, p.marks);
-        i += 1;
-    }
-    out
+    places.iter().copied().find(|p| p.area == area)
 }
 
-// The last day entered marked for an area: bit 0, which ageing left clear.
-pub fn mark(given: Record, area: u32) -> Marking
+// The last day entered marked for an area: bit 0, which ageing left clear. None where the record has no room for the area.
+pub fn mark(given: Record, area: u32) -> Option<Record>
     requires { Sound 4294967295 given }
-    ensures { result ≡ answered given.last given (marked area (entries given)) }
+    ensures { result ≡ answered given.last (marked area (entries given)) }
 {
-    let places = given.places;
-    let held = given.held as usize;
-    let k = place_of(given, area);
-    let front = copied(empty(given.last), given, 0, k);
-    if k < held {
-        let p = places[k];
+    let places = &given.places[..given.held as usize];
+    let k = place_of(places, area).unwrap_or(places.len());
+    if let Some(p) = places.get(k) {
         if p.area == area {
-            let after = copied(push(front, area, p.marks + 1), given, k + 1, held);
-            return Marking {
-                refused: false,
-                after,
+            let more = Place {
+                area,
+                marks: p.marks + 1,
             };
+            return Some(between(given.last, &places[..k], more, &places[k + 1..]));
         }
     }
-    if held == limits::MOST_HELD {
-        return Marking {
-            refused: true,
-            after: given,
-        };
+    if places.len() == limits::MOST_HELD {
+        return None;
     }
-    let after = copied(push(front, area, 1), given, k, held);
-    Marking {
-        refused: false,
-        after,
-    }
+    Some(between(
+        given.last,
+        &places[..k],
+        Place { area, marks: 1 },
+        &places[k..],
+    ))
 }
 
 // An area's marks; 0 where it is not held.
@@ -143,15 +128,5 @@ pub fn marks_of(given: Record, area: u32) -> u32
     requires { given.held ≤ most_held }
     ensures { result ≡ marks_of area (entries given) }
 {
-    let places = given.places;
-    let held = given.held as usize;
-    let mut k = 0;
-    while k < held {
-        let p = places[k];
-        if p.area == area {
-            return p.marks;
-        }
-        k += 1;
-    }
-    0
+    held(&given.places[..given.held as usize], area).map_or(0, |p| p.marks)
 }

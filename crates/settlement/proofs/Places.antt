@@ -69,7 +69,7 @@ module _ (file : List ℕ) (accepted : number_of (check_of file) ≡ 0) where
   words : length file / 4 ≤ most_place
   words =
       let b = bytes_most (edition_of file) in
-      omega (arith, (file_length _ file (within_limits file accepted)).most_bytes b.0, b.1)
+      omega (arith, (file_length _ file (within_limits file accepted)).most_bytes b.0 b.1, b.2)
 
   module _ (terms : Terms) (k : ℕ) (below : k < areas_of file) where
     abbrev body : List ℕ
@@ -114,7 +114,7 @@ check_small file =
     (λ z. dite (ℕ_discrete (number_of v) 1)
     (λ y. omega (arith, ((length_exactly file).1 ((length_exactly file).0 y)).1))
     (λ y. dite (dec_le (place_of v) most_place) (λ small. small)
-    (λ large. absurd (y ((length_exactly file).1 (λ l. omega (arith, large, l.most b.0, b.1, (first_broken file z y).inside))).0))))
+    (λ large. absurd (y ((length_exactly file).1 (λ l. omega (arith, large, l.most b.0 b.1, b.2, (first_broken file z y).inside))).0))))
 
 -- so number × 1,000,000 + place can be taken apart again
 pub settle_place : (days : ℕ → ℕ) (file : List ℕ) (room : ℕ) → place_of (settle_with days file room) ≤ most_place

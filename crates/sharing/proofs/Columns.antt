@@ -7,6 +7,7 @@ use mathlib.Core.Path.{◌≡◌, sym, ◌∙◌, ap}
 use mathlib.Core.List.{List, [], ◌∷◌, ◌++◌, map}
 use native.Mathlib.Decide.{dec_le}
 use lib.Dec.{leb}
+use Rattle.std.specs.Prelude.{Err}
 use lib.IntN.{ℤ}
 use lib.ListN.{length, get_or, take, drop, set, length-map, length-take, length-replicate, drop_of_length-le, get_or-map}
 use lib.Seq.{take_all, get_or-take, take-append_seam}
@@ -83,5 +84,5 @@ module _ (rows : List Row) where
       (λ h.
       let some : leb 1 (length rows) ≡ true = le-leb 1 (length rows) (omega (arith, h)) in
       let many : leb (length rows) most_coordinators ≡ false = lt-leb (length rows) most_coordinators (omega (arith, h)) in
-      let bad : r ≡ BadLength = said.0 ∙ simp (e, some, many) in
+      let bad : r ≡ Err BadLength = said.0 ∙ simp (e, some, many) in
       (bad ∙ simp (some, many), said.1 ∙ simp bad))

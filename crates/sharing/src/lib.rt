@@ -24,23 +24,11 @@ struct Table {
     demands: [u32; limits::MOST_COORDINATORS],
 }
 
-fn at_most(n: usize, most: usize) -> usize
-    ensures { result ≡ min n most }
-{
-    if most < n {
-        return most;
-    }
-    n
-}
-
 fn share_table(amount: i64, table: Table, charges: &mut [i64]) -> Result<(), Refusal>
     ensures { SharedTable amount table charges.old result charges.new }
 {
     let count = table.count;
-    if count < 1 {
-        return Err(Refusal::BadLength);
-    }
-    if limits::MOST_COORDINATORS < count {
+    if count < 1 || limits::MOST_COORDINATORS < count {
         return Err(Refusal::BadLength);
     }
     let coordinators = table.coordinators;
@@ -55,13 +43,11 @@ fn table_of(rows: &[Row]) -> Table
     let mut coordinators = [0u32; limits::MOST_COORDINATORS];
     let mut demands = [0u32; limits::MOST_COORDINATORS];
     let count = rows.len();
-    let copied = at_most(count, limits::MOST_COORDINATORS);
-    let mut i: usize = 0;
-    while i < copied {
+    let copied = count.min(limits::MOST_COORDINATORS);
+    for i in 0..copied {
         let row = rows[i];
         coordinators[i] = row.coordinator;
         demands[i] = row.demand;
-        i += 1;
     }
     Table {
         count,
@@ -86,6 +72,6 @@ pub fn share_array(
 ) -> Result<(), Refusal>
     ensures { SharedRows amount (take n rows) charges.old result charges.new }
 {
-    let lent = at_most(n, ROWS_BY_VALUE);
+    let lent = n.min(ROWS_BY_VALUE);
     share(amount, &rows[..lent], charges)
 }

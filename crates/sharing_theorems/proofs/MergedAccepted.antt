@@ -2,7 +2,7 @@
 use Prim.Native.Nat.{ℕ, ◌+◌, ◌≤◌, ◌<◌}
 use mathlib.Core.Bool.{true, ◌&&◌, ◌||◌}
 use mathlib.Core.List.{List}
-use mathlib.Core.Path.{◌≡◌, refl, sym, ap, ◌∙◌}
+use mathlib.Core.Path.{◌≡◌, sym, ap, ◌∙◌}
 use native.Mathlib.Omega.{arith}
 use lib.Dec.{eqb, leb, ltb}
 use lib.IntN.{ℤ, nat_abs}
@@ -10,7 +10,7 @@ use lib.ListN.{length, get_or, take, drop, length-map, take-append-drop}
 use borrow.Author.Tests.{lt-ltb, le-leb, leb-true, ltb-true}
 use Rattle.verdict.specs.Verdict.{number_of}
 use Rattle.verdict.specs.First.{◌or_else◌}
-use Rattle.verdict.proofs.First.{kept, both, or_first, or_second, scan_each, all_accept, seq_next}
+use Rattle.verdict.proofs.First.{kept, both, or_first, or_second, scan_each, all_accept, or_next}
 use Rattle.exact.specs.Total.{total}
 use Rattle.exact.proofs.Totals.{total_append, total_next}
 use Rattle.limits.specs.Ranges.{most_coordinators, most_demand, most_amount, largest_number}
@@ -112,4 +112,4 @@ module _ (i n number : ℕ) (amount : ℤ) (rows : List Row) (room : ℕ) (g : M
       let most : length (merged_rows i n number rows) ≤ most_coordinators = omega (arith, fewer, g.some, counted.0) in
       rw (coordinators_merged i n number rows, demands_merged i n number rows)
       (simp (le-leb _ _ some, le-leb _ _ most, told.0)
-      (ap number_of (seq_next _ _ _ _ _ refl refl refl rows-accepted) ∙ charges-accepted))
+      (ap number_of (or_next _ _ rows-accepted) ∙ charges-accepted))

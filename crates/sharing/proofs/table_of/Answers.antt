@@ -10,7 +10,6 @@ unfolding empty_column
 loop-i-init c = record {
   coordinators_copied = copied_none (λ row. row.coordinator) c.args.rows.now;
   demands_copied = copied_none (λ row. row.demand) c.args.rows.now;
-  within = omega arith;
 }
 
 pub loop-i-preserved : goal.loop-i-preserved
@@ -19,7 +18,6 @@ loop-i-preserved c =
     record {
       coordinators_copied = copied_next (λ row. row.coordinator) c.args.rows.now _ _ c.loop-i.invariant.coordinators_copied there;
       demands_copied = copied_next (λ row. row.demand) c.args.rows.now _ _ c.loop-i.invariant.demands_copied there;
-      within = omega arith;
     }
 
 pub returns : goal.returns

@@ -1,5 +1,4 @@
 -- The first i rows are copied into the two columns.
-use Rattle.std.proofs.Common.{◌-◌, ◌≤◌}
 use Rattle.sharing.proofs.Columns.{Copied}
 use Rattle.sharing.proofs.table_of.Given as goal
 
@@ -7,8 +6,4 @@ abbrev pub invariant-loop-i : goal.invariant-loop-i
 invariant-loop-i l = record {
   coordinators_copied : Copied (λ row. row.coordinator) l.rows l.coordinators l.i;
   demands_copied : Copied (λ row. row.demand) l.rows l.demands l.i;
-  within : l.i ≤ l.copied;
 }
-
-abbrev pub decreases-loop-i : goal.decreases-loop-i
-decreases-loop-i l = l.copied - l.i

@@ -130,10 +130,9 @@ fn load_weighted_within(most: usize, pairs: &[u8]) -> Result<Priced, PriceRefusa
         return Err(PriceRefusal::BadLength);
     }
     let n = pairs.len() / 8;
-    let v = hour::intervals(0, pairs, 0, n);
-    if verdict::number(v) != 0 {
+    if let Err(refusal) = hour::intervals(0, pairs, 0, n) {
         return Err(PriceRefusal::OutOfRange {
-            pair: verdict::place(v) / 2,
+            pair: refusal.place() / 2,
         });
     }
     average_price(pairs, n)

@@ -1,8 +1,7 @@
-use Rattle.std.proofs.Common.{◌∙◌, sym, ap}
+use Rattle.std.proofs.Common.{sym, ap}
 use Rattle.verdict.specs.Verdict.{number_of}
 use Rattle.price.proofs.Answers.{pairs_ranged}
 use Rattle.price.proofs.load_weighted_within.Goals as goal
 
 pub average_price-requires-clause-ranged : goal.average_price-requires-clause-ranged
-average_price-requires-clause-ranged c =
-    pairs_ranged _ _ (sym (c.number.ensures ∙ ap number_of c.intervals-v.ensures) ∙ c.if-number-ne0.false)
+average_price-requires-clause-ranged c = pairs_ranged _ _ (ap number_of (sym c.in_default.ensures))

@@ -32,16 +32,15 @@ pub fn numbers_needed(file: &[u8], n: usize) -> usize
     ensures { result ≡ needed_to file.now n }
 {
     let mut needed: usize = 0;
-    let mut k: usize = 0;
-    while k < n {
+    for k in 0..n {
         let count = words::word(contents::body_at(file, k), 6) as usize;
         needed += statement::area_numbers(count);
-        k += 1;
     }
     needed
 }
 
 // What area k's day is settled under: its d stands in the list, or else in its body.
+#[tactic(auto, unfolding(crate::specs::Settlement::days_in))]
 fn terms_of(peak: u32, days: &[u32], k: usize, body: &[u8]) -> Terms
     requires { 28 ≤ length body.now }
     ensures { result ≡ terms_in peak days.now k body.now }
@@ -79,13 +78,11 @@ fn write_areas(peak: u32, days: &[u32], file: &[u8], n: usize, statement: &mut [
 {
     let mut room = [0u8; 8 * MOST_AREA_NUMBERS];
     let mut to: usize = 0;
-    let mut k: usize = 0;
-    while k < n {
+    for k in 0..n {
         let body = contents::body_at(file, k);
         let terms = terms_of(peak, days, k, body);
         area_into_numbers(terms, body, &mut room, &mut statement[to..]);
         to += statement::area_numbers(words::word(body, 6) as usize);
-        k += 1;
     }
 }
 
@@ -109,7 +106,14 @@ fn chargeable_hour(terms: Terms, day: Day, body: &[u8], h: usize, at: usize) -> 
 }
 
 // What charging hour h refuses, in the body that starts at word `start` of the file.
-fn check_charge(terms: Terms, day: Day, start: usize, body: &[u8], h: usize, at: usize) -> Result<(), Refusal>
+fn check_charge(
+    terms: Terms,
+    day: Day,
+    start: usize,
+    body: &[u8],
+    h: usize,
+    at: usize,
+) -> Result<(), Refusal>
     requires { (AtHour terms day body.now h at) × (start < 4294967296) }
     ensures { result ≡ charge_rule terms start body.now h }
 {
@@ -117,13 +121,20 @@ fn check_charge(terms: Terms, day: Day, start: usize, body: &[u8], h: usize, at:
         return Ok(());
     }
     let load = words::word(body, 5) as usize;
-    Verdict::AmountWithoutDemand {
+    Err(Refusal::AmountWithoutDemand {
         place: start + (at + 8 + 24 * load),
-    }
+    })
 }
 
 // The first refusal of hour h, in the body that starts at word `start` of the file.
-fn check_hour(terms: Terms, day: Day, start: usize, body: &[u8], h: usize, at: usize) -> Result<(), Refusal>
+fn check_hour(
+    terms: Terms,
+    day: Day,
+    start: usize,
+    body: &[u8],
+    h: usize,
+    at: usize,
+) -> Result<(), Refusal>
     requires { (AtHour terms day body.now h at) × (start < 4294967296) }
     ensures { result ≡ hour_refusal terms start body.now h }
 {
@@ -140,16 +151,15 @@ fn check_hours(terms: Terms, start: usize, body: &[u8]) -> Result<(), Refusal>
     let load = words::word(body, 5) as usize;
     let count = words::word(body, 6) as usize;
     let mut at = body::first_hour(load, count);
-    let mut h: usize = 0;
-    while h < limits::DAY_HOURS {
+    for h in 0..limits::DAY_HOURS {
         check_hour(terms, day, start, body, h, at)?;
         at = body::next_hour(load, count, h, at);
-        h += 1;
     }
     Ok(())
 }
 
 // The first refusal among the hours of an area: none of a plain one.
+#[tactic(auto, using(crate::proofs::NeverRefused::never_refused))]
 fn check_area(plain: bool, terms: Terms, start: usize, body: &[u8]) -> Result<(), Refusal>
     requires terms_body_and_start { (TermsKept terms) × ((Sound proved_points body.now) × (start < 4294967296)) }
     requires plain_told { plain ≡ plain_area body.now }
@@ -173,13 +183,11 @@ fn check_areas(
     requires plain_told { PlainTold plain file.now n }
     ensures { result ≡ areas_refusal (listed days.now file.now) file.now }
 {
-    let mut k: usize = 0;
-    while k < n {
+    for k in 0..n {
         let start = words::word(file, 4 + 3 * k + 1) as usize;
         let body = contents::body_at(file, k);
         let terms = terms_of(peak, days, k, body);
         check_area(plain[k], terms, start, body)?;
-        k += 1;
     }
     Ok(())
 }
@@ -219,16 +227,14 @@ pub fn settle_accepted(
     let n = words::word(file, 2) as usize;
     let peak = words::word(file, 3);
     write_areas(peak, days, file, n, statement);
-    v
+    Ok(())
 }
 
 // What settling the file into a statement of so many numbers answers; nothing is written.
 pub fn answer(file: &[u8], room: usize) -> Result<(), Refusal>
     ensures { result ≡ settle_of file.now room }
 {
-    let told = dayfile::checked(file);
-    told.answer?;
-    let plain = told.plain;
+    let plain = dayfile::checked(file)?;
     let own = [0u32; 0];
     answer_accepted(plain, &own, file, room)
 }
@@ -239,9 +245,7 @@ pub fn settle(file: &[u8], statement: &mut [i64]) -> Result<(), Refusal>
     ensures value { result ≡ settle_of file.now (length statement.old) }
     ensures statement_after { statement.new ≡ after result file.now statement.old }
 {
-    let told = dayfile::checked(file);
-    told.answer?;
-    let plain = told.plain;
+    let plain = dayfile::checked(file)?;
     let own = [0u32; 0];
     settle_accepted(plain, &own, file, statement)
 }

@@ -1,8 +1,7 @@
 -- The entries of a book while they are rewritten.
 use Prim.Native.Nat.{ℕ, zero, suc, ◌+◌, ◌*◌, ◌-◌, ◌≤◌, ◌<◌}
-use mathlib.Core.Path.{◌≡◌, refl, sym, ap, ◌∙◌}
-use mathlib.Core.List.{List, ◌++◌, append_assoc, append-nil}
-use native.Mathlib.Nat.{add-zero}
+use mathlib.Core.Path.{◌≡◌, refl, ap, ◌∙◌}
+use mathlib.Core.List.{List, ◌++◌}
 use native.Mathlib.Numerals.{add-one}
 use native.Mathlib.Omega.{arith}
 use lib.ListN.{length, length-append}
@@ -10,7 +9,8 @@ use Rattle.words.specs.Word.{word_at}
 use Rattle.words.specs.Bytes.{word_bytes}
 use Rattle.words.proofs.Words.{word_long}
 use Rattle.moving.specs.Written.{written}
-use Rattle.moving.proofs.Written.{written_on, written_back, then_behind}
+use Rattle.moving.proofs.Written.{then_before, then_behind}
+use Rattle.std.proofs.lemmas.Grind.{common_steps}
 use Rattle.moving.proofs.WordsLeft.{word_before, words_behind}
 use Rattle.book.specs.Days.{entry_bytes}
 use Rattle.book.proofs.Lengths.{entry_long}
@@ -24,11 +24,11 @@ pub entry_written : (room one two three : List ℕ) (k date start size : ℕ) �
 unfolding entry_bytes
 entry_written room one two three k date start size h e f g =
     let a : 4 * (2 + 3 * k) ≡ 8 + 12 * k = omega arith in
-    let b : 4 * (2 + 3 * k + 1) ≡ 8 + 12 * k + length (word_bytes date) = omega (arith, word_long date) in
-    let d : 4 * (2 + 3 * k + 2) ≡ 8 + 12 * k + length (word_bytes date ++ word_bytes start) = simp (length-append, word_long) (omega arith) in
-    g ∙ rw (d, f, b, e, a, written_on room (8 + 12 * k) (word_bytes date) (word_bytes start) (omega (arith, word_long date, word_long start)))
-    (written_on room (8 + 12 * k) (word_bytes date ++ word_bytes start) (word_bytes size) (rw length-append
-    (omega (arith, word_long date, word_long start, word_long size))))
+    let day = word_bytes date in
+    let both = then_behind room one two (word_bytes start) day (8 + 12 * k) (4 * (2 + 3 * k + 1)) (omega (arith, word_long date))
+    (omega (arith, word_long start)) (rw a at e) f in
+    then_behind room two three (word_bytes size) (day ++ word_bytes start) (8 + 12 * k) (4 * (2 + 3 * k + 2))
+    (simp (length-append, word_long) (omega arith)) (omega (arith, word_long size)) both g
 
 pub later_length : (room : List ℕ) (more k m : ℕ) → length (later room more k m) ≡ 12 * m
 unfolding later
@@ -49,19 +49,18 @@ pub entry_before : (room now next : List ℕ) (more k up high : ℕ) → k < hig
     → next ≡ written room (8 + 12 * (k + up)) (later room more k (high - k))
 unfolding later
 entry_before room now next more k up high h l stands came =
-    let n : length (later room more (k + 1) (high - (k + 1))) ≡ 12 * (high - (k + 1)) = later_length room more (k + 1) (high - (k + 1)) in
+    let rest = later room more (k + 1) (high - (k + 1)) in
+    let entry = entry_bytes (date_at room k) (start_at room k + more) (size_at room k) in
     let word : (i : ℕ) → i < 5 + 3 * k → word_at now i ≡ word_at room i =
     λ i q. later_keeps room now more (k + 1) up high (omega arith) l stands i (omega arith) in
-    let t : length (entry_bytes (date_at room k) (start_at room k + more) (size_at room k)) ≡ 12 = entry_long _ _ _ in
-    let at : 8 + 12 * (k + 1 + up) ≡ 8 + 12 * (k + up) + 12 = omega arith in
     let m : high - k ≡ suc (high - (k + 1)) = omega arith in
-    let back : written (written room (8 + 12 * (k + up) + length (entry_bytes (date_at room k) (start_at room k + more) (size_at room k)))
-    (later room more (k + 1) (high - (k + 1)))) (8 + 12 * (k + up)) (entry_bytes (date_at room k) (start_at room k + more) (size_at room k)) ≡ written room
-    (8 + 12 * (k + up)) (entry_bytes (date_at room k) (start_at room k + more) (size_at room k) ++ later room more (k + 1) (high - (k + 1))) =
-    written_back room (8 + 12 * (k + up)) (entry_bytes (date_at room k) (start_at room k + more) (size_at room k)) (later room more (k + 1) (high - (k + 1)))
-    (rw (t, n) (omega arith)) in
-    came ∙ rw (word (2 + 3 * k) (omega arith), word (2 + 3 * k + 1) (omega arith), word (2 + 3 * k + 2) (omega arith), stands, at, m, ← add-one k)
-    (rw t at back)
+    rw (m, ← add-one k)
+    (then_before room now next entry rest (8 + 12 * (k + up)) (8 + 12 * (k + 1 + up)) (omega (
+      arith,
+      entry_long (date_at room k) (start_at room k + more)
+          (size_at room k),
+    )) (omega (arith, later_length room more (k + 1) (high - (k + 1)))) stands
+    (rw (word (2 + 3 * k) (omega arith), word (2 + 3 * k + 1) (omega arith), word (2 + 3 * k + 2) (omega arith)) at came))
 
 -- entries by their words
 pub later_same : (a b : List ℕ) (more k m : ℕ) → ((i : ℕ) → i < 2 + 3 * (k + m) → word_at a i ≡ word_at b i) → later a more k m ≡ later b more k m
@@ -91,13 +90,8 @@ earlier_same a b less k (suc m) h =
 earlier_more : (room : List ℕ) (less k m : ℕ)
     → earlier room less k (suc m) ≡ earlier room less k m ++ entry_bytes (date_at room (k + m)) (start_at room (k + m) - less) (size_at room (k + m))
 unfolding earlier
-earlier_more room less k zero = rw add-zero (append-nil (entry_bytes (date_at room k) (start_at room k - less) (size_at room k)))
-earlier_more room less k (suc m) =
-    let e : k + suc m ≡ suc k + m = omega arith in
-    rw e
-    (ap (λ l. entry_bytes (date_at room k) (start_at room k - less) (size_at room k) ++ l) (earlier_more room less (suc k) m)
-    ∙ sym (append_assoc (entry_bytes (date_at room k) (start_at room k - less) (size_at room k)) (earlier room less (suc k) m)
-    (entry_bytes (date_at room (suc k + m)) (start_at room (suc k + m) - less) (size_at room (suc k + m)))))
+earlier_more room less k zero = grind (arith, common_steps)
+earlier_more room less k (suc m) = grind (arith, common_steps, earlier_more room less (suc k) m)
 
 -- the words of the entries behind those that were written
 pub earlier_keeps : (room now : List ℕ) (less low k down : ℕ) → low ≤ k → 8 + 12 * k ≤ length room

@@ -29,14 +29,13 @@ fn copy_entry(room: &mut [u8], from: usize, to: usize, start: u32)
     put_entry(room, to, date, start, size);
 }
 
-// The entries low to high, each `up` places further and its start by `more` later; from the last to the first.
+// The entries low to high, each `up` places further and its start by `more` later; from the last to the first. One form of this and of
+// `entries_down` would take the order of the places, the way and the sign of the change as parameters: no plainer.
 fn entries_up(room: &mut [u8], low: usize, high: usize, up: usize, more: u32)
     requires { (low ≤ high) × ((8 + 12 * (high + up) ≤ length room.old) × ((k : ℕ) → k < high → start_at room.old k + more < 4294967296)) }
     ensures { room.new ≡ written room.old (8 + 12 * (low + up)) (later room.old more low (high - low)) }
 {
-    let mut k = high;
-    while low < k {
-        k -= 1;
+    for k in (low..high).rev() {
         let start = words::word(room, 2 + 3 * k + 1);
         copy_entry(room, k, k + up, start + more);
     }
@@ -60,11 +59,9 @@ fn entries_down(room: &mut [u8], low: usize, high: usize, down: usize, less: usi
     requires { (low ≤ high) × ((8 + 12 * (high + down) ≤ length room.old) × ((k : ℕ) → low + down ≤ k → k < high + down → less ≤ start_at room.old k)) }
     ensures { room.new ≡ written room.old (8 + 12 * low) (earlier room.old less (low + down) (high - low)) }
 {
-    let mut k = low;
-    while k < high {
+    for k in low..high {
         let start = words::word(room, 2 + 3 * (k + down) + 1) as usize;
         copy_entry(room, k + down, k, (start - less) as u32);
-        k += 1;
     }
 }
 

@@ -1,14 +1,13 @@
 -- The laws of the number of a day, and its value by formula.
 use Prim.Native.Nat.{ℕ, zero, suc, ◌+◌, ◌*◌, ◌-◌, ◌/◌, ◌%◌, ◌<◌, ◌≤◌, min}
 use mathlib.Core.Path.{◌≡◌, refl, ap, ◌∙◌}
-use mathlib.Core.Bool.{Bool, true, false, cond, ◌&&◌, and-false}
+use mathlib.Core.Bool.{Bool, true, false, cond, ◌&&◌}
 use mathlib.Core.Logic.{dite}
 use native.Mathlib.Decide.{dec_lt}
 use native.Mathlib.Omega.{arith}
 use native.Mathlib.Nat.{add-zero, le_refl}
-use lib.Dec.{leb, eqb}
-use borrow.Author.Tests.{leb-true, leb-false, le-leb, lt-leb, eqb-true, eqb-false}
-use Rattle.verdict.proofs.First.{both}
+use lib.Dec.{leb}
+use Rattle.std.proofs.lemmas.Bool.Decides.{nat_tests}
 use Rattle.calendar.specs.Date.{leap_year, days_in, real_date}
 use Rattle.calendar.specs.DayNumber.{day_number, days_of_months}
 
@@ -25,32 +24,27 @@ pub record Real (y m d : ℕ) : Type 0 where
 pub real_parts : (date : ℕ) → real_date date ≡ true → Real (date / 10000) (date / 100 % 100) (date % 100)
 unfolding real_date
 real_parts date t =
-    let a = both _ _ t in
-    let b = both _ _ a.0 in
-    let e = both _ _ b.0 in
-    let f = both _ _ e.0 in
-    let g = both _ _ f.0 in
     record {
-      from = leb-true _ _ g.0;
-      to = leb-true _ _ g.1;
-      first_month = leb-true _ _ f.1;
-      last_month = leb-true _ _ e.1;
-      first_day = leb-true _ _ b.1;
-      last_day_lem = leb-true _ _ a.1;
+      from = grind (arith, nat_tests);
+      to = grind (arith, nat_tests);
+      first_month = grind (arith, nat_tests);
+      last_month = grind (arith, nat_tests);
+      first_day = grind (arith, nat_tests);
+      last_day_lem = grind (arith, nat_tests);
     }
 
 module _ (date : ℕ) where
   low-year : date / 10000 < 2000 → real_date date ≡ false
   unfolding real_date
-  low-year h = simp (lt-leb 2000 (date / 10000) h)
+  low-year h = grind (arith, nat_tests)
 
   low-month : date / 100 % 100 < 1 → real_date date ≡ false
   unfolding real_date
-  low-month h = simp (lt-leb 1 (date / 100 % 100) h, and-false)
+  low-month h = grind (arith, nat_tests)
 
   high-month : 12 < date / 100 % 100 → real_date date ≡ false
   unfolding real_date
-  high-month h = simp (lt-leb (date / 100 % 100) 12 h, and-false)
+  high-month h = grind (arith, nat_tests)
 
 -- ---- numbers in a row
 
@@ -71,29 +65,15 @@ quiet a (suc n) none =
 
 pub days_most : (y m : ℕ) → days_in y m ≤ 31
 unfolding days_in
-days_most y m = by (eqb m 2) (leap_year y) refl refl
-  where
-    by : (t u : Bool) → eqb m 2 ≡ t → leap_year y ≡ u → days_in y m ≤ 31
-    by true true p q = rw (p, q) (omega arith)
-    by true false p q = rw (p, q) (omega arith)
-    by false u p q = rw p (omega arith)
+days_most y m = grind (arith, nat_tests)
 
 one_more : (d len : ℕ) → min (d - 1) len + cond (leb 1 d && leb d len) 1 0 ≡ min (d + 1 - 1) len
-one_more d len = by (leb 1 d) (leb d len) refl refl
-  where
-    by : (t u : Bool) → leb 1 d ≡ t → leb d len ≡ u → min (d - 1) len + cond (leb 1 d && leb d len) 1 0 ≡ min (d + 1 - 1) len
-    by true true p q = rw (p, q) (omega (arith, leb-true 1 d p, leb-true d len q))
-    by true false p q = rw (p, q) (omega (arith, leb-true 1 d p, leb-false d len q))
-    by false u p q = rw p (omega (arith, leb-false 1 d p))
+one_more d len = grind (arith, nat_tests)
 
 module _ (y : ℕ) (from : 2000 ≤ y) (to : y ≤ 2099) where
   in-month : (m d : ℕ) → 1 ≤ m → m ≤ 12 → d < 100 → real_date (10000 * y + 100 * m + d) ≡ (leb 1 d && leb d (days_in y m))
   unfolding real_date
-  in-month m d h l k =
-      let ey : (10000 * y + 100 * m + d) / 10000 ≡ y = omega arith in
-      let em : (10000 * y + 100 * m + d) / 100 % 100 ≡ m = omega arith in
-      let ed : (10000 * y + 100 * m + d) % 100 ≡ d = omega arith in
-      rw (ey, em, ed) (simp (le-leb 2000 y from, le-leb y 2099 to, le-leb 1 m h, le-leb m 12 l))
+  in-month m d h l k = grind (arith, nat_tests)
 
   days : (m d : ℕ) → 1 ≤ m → m ≤ 12 → d ≤ 100 → day_number (10000 * y + 100 * m + d) ≡ day_number (10000 * y + 100 * m) + min (d - 1) (days_in y m)
   days m zero h l k = rw add-zero (omega arith)
@@ -119,22 +99,11 @@ module _ (y : ℕ) (from : 2000 ≤ y) (to : y ≤ 2099) where
 
   year-days : days_of_months y 12 ≡ 365 + cond (leap_year y) 1 0
   unfolding days_of_months days_in
-  year-days = by (leap_year y) refl
-    where
-      by : (t : Bool) → leap_year y ≡ t → days_of_months y 12 ≡ 365 + cond (leap_year y) 1 0
-      by true e = rw e
-      by false e = rw e
+  year-days = grind (arith, nat_tests)
 
   leap-day : cond (leap_year y) 1 0 + (y - 1997) / 4 ≡ (y + 1 - 1997) / 4
   unfolding leap_year
-  leap-day = by (eqb (y % 400) 0) (eqb (y % 100) 0) (eqb (y % 4) 0) refl refl refl
-    where
-      by : (s t u : Bool) → eqb (y % 400) 0 ≡ s → eqb (y % 100) 0 ≡ t → eqb (y % 4) 0 ≡ u
-          → cond (cond s true (cond t false u)) 1 0 + (y - 1997) / 4 ≡ (y + 1 - 1997) / 4
-      by true t u p q r = omega (arith, eqb-true (y % 400) 0 p)
-      by false true u p q r = absurd (omega (arith, eqb-true (y % 100) 0 q, eqb-false (y % 400) 0 p))
-      by false false true p q r = omega (arith, eqb-true (y % 4) 0 r)
-      by false false false p q r = omega (arith, eqb-false (y % 4) 0 r)
+  leap-day = grind (arith, nat_tests)
 
 -- ---- the years
 
@@ -178,8 +147,7 @@ pub months_next : (y b : ℕ) → 1 ≤ b → days_of_months y (b + 1 - 1) ≡ d
 unfolding days_of_months
 months_next y b h =
     let e : b + 1 - 1 ≡ suc (b - 1) = omega arith in
-    let f : suc (b - 1) ≡ b = omega arith in
-    rw e (rw f)
+    grind (arith, e)
 
 no_fall : (a n : ℕ) → day_number a ≤ day_number (a + n)
 no_fall a zero = rw add-zero (le_refl _)

@@ -2,14 +2,14 @@
 -- that list. The lengths stand here alone.
 use Prim.Native.Nat.{ℕ, zero, suc, ◌+◌, ◌-◌, ◌/◌, ◌%◌, ◌<◌, ◌≤◌}
 use mathlib.Core.Path.{◌≡◌, refl, ap}
-use mathlib.Core.Bool.{Bool, cond, ◌&&◌, and-false}
+use mathlib.Core.Bool.{Bool, cond, ◌&&◌}
 use mathlib.Core.List.{List, [], ◌∷◌, map}
 use mathlib.Core.Logic.{dite}
-use native.Mathlib.Decide.{ℕ_discrete, dec_lt}
+use native.Mathlib.Decide.{ℕ_discrete}
 use native.Mathlib.Omega.{arith}
+use Rattle.std.proofs.lemmas.Bool.Decides.{nat_tests}
 use lib.Dec.{eqb, leb}
 use lib.ListN.{get_or, drop}
-use borrow.Author.Tests.{lt-leb}
 use Rattle.calendar.specs.Date.{leap_year, days_in, real_date}
 
 -- ---- the twelve lengths
@@ -53,7 +53,4 @@ same_length year month from to = alike (days_in year) (days_listed year) 1 12 (t
 pub same_dates : (date : ℕ) → real_date date ≡ real_listed date
 unfolding real_date
 same_dates date =
-    let month = date / 100 % 100 in
-    dite (dec_lt month 1) (λ h. simp (lt-leb 1 month h, and-false))
-    (λ h. dite (dec_lt 12 month) (λ k. simp (lt-leb month 12 k, and-false))
-    (λ k. rw (same_length (date / 10000) month (omega (arith, h)) (omega (arith, k)))))
+    grind (arith, nat_tests, same_length (date / 10000) (date / 100 % 100))

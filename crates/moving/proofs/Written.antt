@@ -26,7 +26,7 @@ unfolding written
 written_none room at = grind (arith, common_steps)
 
 -- written twice, the second time right behind the first
-pub written_on : (room : List ℕ) (at : ℕ) (xs ys : List ℕ) → at + length xs + length ys ≤ length room
+written_on : (room : List ℕ) (at : ℕ) (xs ys : List ℕ) → at + length xs + length ys ≤ length room
     → written (written room at xs) (at + length xs) ys ≡ written room at (xs ++ ys)
 unfolding written
 written_on room at xs ys h =
@@ -35,7 +35,7 @@ written_on room at xs ys h =
     rw (upto, written_behind room at xs (omega arith) (at + length xs + length ys) (omega arith), far, append_assoc (take at room) xs ys)
 
 -- written twice, the second time right before the first
-pub written_back : (room : List ℕ) (at : ℕ) (xs ys : List ℕ) → at + length xs + length ys ≤ length room
+written_back : (room : List ℕ) (at : ℕ) (xs ys : List ℕ) → at + length xs + length ys ≤ length room
     → written (written room (at + length xs) ys) at xs ≡ written room at (xs ++ ys)
 unfolding written
 written_back room at xs ys h = grind (arith, common_steps)

@@ -1,4 +1,3 @@
-use Rattle.std.proofs.Common.{arith}
 use Rattle.calendar.proofs.DayNumber.{real_parts}
 use Rattle.calendar.proofs.day_number.Goals as goal
 

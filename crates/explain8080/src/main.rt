@@ -229,14 +229,12 @@ fn show_price(
 ) -> io::Result<()>
     requires { AtHour terms day body.now h at }
 {
-    let priced = explaining::hour_price(terms, day, body, h, at);
-    let price = priced.price;
-    if !priced.there {
-        show::field(rt, b"none")?;
-        return show::number_field(rt, priced.count as i64);
+    let hour = explaining::hour_price(terms, day, body, h, at);
+    match hour.price {
+        Some(price) => show::signed_word_field(rt, price.0)?,
+        None => show::field(rt, b"none")?,
     }
-    show::signed_word_field(rt, price.0)?;
-    show::number_field(rt, priced.count as i64)
+    show::number_field(rt, hour.count as i64)
 }
 
 // S, the credit, the on-peak and the off-peak amount, as the statement shows them.

@@ -1,13 +1,13 @@
 -- What the amounts of an hour rest on, of which the statement shows nothing (docs/EXPLAIN.md).
-use Rattle.std.specs.Prelude.{ℕ, cond, List, eqb, leb}
+use Rattle.std.specs.Prelude.{ℕ, cond, List, Option, Some, None, Ok, Err, leb}
 use Rattle.body.specs.Layout.{requirement_at}
-use Rattle.price.specs.declared.PriceAnswer.{PriceAnswer}
-use Rattle.price.specs.Price.{answer_price, answer_number, answer_count}
+use Rattle.price.specs.Price.{PriceAnswer, answer_count}
 use Rattle.surcharge.specs.declared.Terms.{Terms}
 use Rattle.surcharge.specs.Surcharge.{peak_hour, quarters}
 use Rattle.amounts.specs.Amounts.{upward_at, tier_at, day_tier, price_needed}
 use Rattle.explaining.specs.declared.Shortage.{Shortage}
-use Rattle.explaining.specs.declared.Priced.{Priced}
+use Rattle.explaining.specs.declared.HourPrice.{HourPrice}
+use Rattle.units.specs.declared.MarketPrice.{MarketPrice}
 
 -- m of a tier in quarters; 0 under tier 0 and 1, where nothing is multiplied
 abbrev pub multiplier_of : ℕ → ℕ
@@ -28,6 +28,10 @@ shortage_at terms body h =
       quarters = multiplier_of (tier_taken terms body h);
     }
 
--- an answer of the price call: whether it is a price, the price, 0 where it is none, and the count
-abbrev pub priced_of : PriceAnswer → Priced
-priced_of answer = record { there = eqb (answer_number answer) 0; price = record { 0 = answer_price answer }; count = answer_count answer }
+-- an answer of the price call: the price, where it is one, and the count
+abbrev pub price_in : PriceAnswer → Option MarketPrice
+price_in (Ok priced) = Some priced.price
+price_in (Err refusal) = None
+
+abbrev pub priced_of : PriceAnswer → HourPrice
+priced_of answer = record { price = price_in answer; count = answer_count answer }

@@ -2,15 +2,14 @@
 // function that settling asks.
 #![tactic(auto)]
 
-ghost use Rattle.std.specs.Prelude.{◌≡◌, cond, eqb};
+ghost use Rattle.std.specs.Prelude.{◌≡◌, cond};
 ghost use Rattle.exact.specs.Total.{total};
 ghost use Rattle.body.specs.Layout.{hour_at, mec_at, demands_of};
-ghost use Rattle.price.specs.Price.{answer_number};
 ghost use Rattle.amounts.specs.Amounts.{downward_from, amount_at, price_answer_at};
 ghost use Rattle.amounts.specs.Ranges.{AtHour};
 ghost use Rattle.explaining.specs.Explaining.{multiplier_of, shortage_at, priced_of};
 
-use price::PriceAnswer;
+use price::{PriceRefusal, Priced};
 use surcharge::{Day, Terms};
 use units::{Cents, MarketPrice, Quantity};
 
@@ -25,11 +24,10 @@ pub struct Shortage {
     pub quarters: u32,
 }
 
-// The price of an hour: whether there is one, what it is, and how many intervals have one.
+// The price of an hour, where it has one, and how many of its intervals have one.
 #[derive(Clone, Copy)]
-pub struct Priced {
-    pub there: bool,
-    pub price: MarketPrice,
+pub struct HourPrice {
+    pub price: Option<MarketPrice>,
     pub count: u32,
 }
 
@@ -54,19 +52,19 @@ fn hour_multiplier(peak: bool, day: u32, tier: u32) -> u32
 }
 
 // The shortage of hour h, which starts at word `at`. `day` has the facts of the area's day.
+#[tactic(auto, using(amounts::proofs::Hours::hour_there))]
 pub fn hour_shortage(terms: Terms, day: Day, body: &[u8], h: usize, at: usize) -> Shortage
     requires { AtHour terms day body.now h at }
     ensures { result ≡ shortage_at terms body.now h }
 {
     let facts = amounts::hour_facts(true, body, at);
-    let upward = facts.upward;
     let tier = facts.tier;
     let requirement = Quantity(words::word(body, at + 6));
     let peak = surcharge::peak_hour(terms, h);
     let needed = surcharge::price_needed(words::word(body, 1), peak, day.tier, tier);
     let quarters = hour_multiplier(peak, day.tier, tier);
     Shortage {
-        upward,
+        upward: facts.upward,
         requirement,
         tier,
         peak,
@@ -75,28 +73,18 @@ pub fn hour_shortage(terms: Terms, day: Day, body: &[u8], h: usize, at: usize) -
     }
 }
 
-// Whether an answer is a price.
-fn is_price(answer: PriceAnswer) -> bool
-    ensures { result ≡ eqb (answer_number answer) 0 }
-{
-    if price::number(answer) == 0 {
-        return true;
-    }
-    false
-}
-
-fn priced_by(answer: PriceAnswer) -> Priced
+fn priced_by(answer: Result<Priced, PriceRefusal>) -> HourPrice
     ensures { result ≡ priced_of answer }
 {
-    Priced {
-        there: is_price(answer),
-        price: MarketPrice(price::price_of(answer)),
+    HourPrice {
+        price: answer.ok().map(|priced| priced.price),
         count: price::count_of(answer),
     }
 }
 
 // The price of hour h.
-pub fn hour_price(terms: Terms, day: Day, body: &[u8], h: usize, at: usize) -> Priced
+#[tactic(auto, using(amounts::proofs::Hours::hour_there))]
+pub fn hour_price(terms: Terms, day: Day, body: &[u8], h: usize, at: usize) -> HourPrice
     requires { AtHour terms day body.now h at }
     ensures { result ≡ priced_of (price_answer_at body.now h) }
 {
@@ -105,6 +93,7 @@ pub fn hour_price(terms: Terms, day: Day, body: &[u8], h: usize, at: usize) -> P
 }
 
 // A of hour h.
+#[tactic(auto, using(amounts::proofs::AmountSizes::amount_is))]
 pub fn hour_amount(terms: Terms, day: Day, body: &[u8], h: usize, at: usize) -> Cents
     requires { AtHour terms day body.now h at }
     ensures { result.0 ≡ amount_at terms body.now h }
@@ -114,6 +103,7 @@ pub fn hour_amount(terms: Terms, day: Day, body: &[u8], h: usize, at: usize) -> 
 }
 
 // T of hour h.
+#[tactic(auto, using(statement::proofs::Demands::demands_ranged))]
 pub fn hour_demand(terms: Terms, day: Day, body: &[u8], h: usize, at: usize) -> u32
     requires { AtHour terms day body.now h at }
     ensures { result ≡ total (demands_of body.now h) }
@@ -124,6 +114,7 @@ pub fn hour_demand(terms: Terms, day: Day, body: &[u8], h: usize, at: usize) -> 
 }
 
 // W of hour h.
+#[tactic(auto, using(amounts::proofs::Hours::hour_there))]
 pub fn hour_downward(terms: Terms, day: Day, body: &[u8], h: usize, at: usize) -> Quantity
     requires { AtHour terms day body.now h at }
     ensures { result.0 ≡ downward_from body.now (hour_at body.now h) }
@@ -132,6 +123,7 @@ pub fn hour_downward(terms: Terms, day: Day, body: &[u8], h: usize, at: usize) -
 }
 
 // MEC of hour h.
+#[tactic(auto, using(amounts::proofs::Hours::hour_there))]
 pub fn hour_mec(terms: Terms, day: Day, body: &[u8], h: usize, at: usize) -> i32
     requires { AtHour terms day body.now h at }
     ensures { result ≡ mec_at body.now h }

@@ -2,10 +2,9 @@
 -- its §4. Each is over the very definitions that the contracts cite.
 -- Quantities are thousandths of a MW or MWh, hub prices and amounts cents, market prices (of an interval, of an hour, MEC) hundredths of a cent. The comment
 -- above a figure has the document's words, in MW, MWh, $ a MWh and $.
-use Rattle.std.specs.Prelude.{ℕ, List, [], ◌∷◌, ◌++◌, ◌≡◌, ℤ, pos, neg_ℤ, replicate}
+use Rattle.std.specs.Prelude.{ℕ, List, [], ◌∷◌, ◌++◌, ◌≡◌, Ok, ℤ, pos, neg_ℤ, replicate}
 use Rattle.exact.specs.Total.{total}
 use Rattle.limits.specs.Ranges.{peak_word, missing_price}
-use Rattle.price.specs.declared.PriceAnswer.TheVariants.{Price}
 use Rattle.price.specs.Price.{empty_average, answer_of, load_weighted}
 use Rattle.price.specs.Intervals.{average_over, first_intervals}
 use Rattle.shares.specs.Shares.{sum, shares, merged_at}
@@ -69,9 +68,9 @@ pub record Figures : Type 0 where
   -- W 12.500 at -0.01: -$0.13; at +40: 0; d is not asked
   pub T9 : (terms : Terms) → (downward_of terms 12500 (neg_ℤ (pos 100)) ≡ neg_ℤ (pos 13)) × (downward_of terms 12500 (pos 400000) ≡ pos 0)
   -- 100 MWh at 30 and 300 at 50, ten missing: 45.0000, "with count 2"
-  pub T10 : answer_of (average_over empty_average intervals) ≡ Price (record { 0 = pos 450000 }) 2
+  pub T10 : answer_of (average_over empty_average intervals) ≡ Ok (record { price = record { 0 = pos 450000 }; count = 2 })
   -- the same by the price call, over the 96 bytes of that hour
-  pub T10_bytes : (first_intervals hour_bytes 12 ≡ intervals) × (load_weighted hour_bytes ≡ Price (record { 0 = pos 450000 }) 2)
+  pub T10_bytes : (first_intervals hour_bytes 12 ≡ intervals) × (load_weighted hour_bytes ≡ Ok (record { price = record { 0 = pos 450000 }; count = 2 }))
   -- 100 cents over 1, 1, 1: 33, 34, 33
   pub T11 : shares (pos 100) (1 ∷ 1 ∷ 1 ∷ []) ≡ pos 33 ∷ pos 34 ∷ pos 33 ∷ []
   -- the first two merged: 67, 33; merged as demands, which are then 2 and 1, and as charges

@@ -2,7 +2,7 @@
 use Prim.Native.Nat.{ℕ, zero, suc, ◌+◌, ◌*◌, ◌≤◌, ◌<◌}
 use mathlib.Core.List.{List, ◌++◌}
 use mathlib.Core.Path.{◌≡◌, sym, ◌∙◌}
-use native.Mathlib.Nat.{suc-mul, zero-mul, mul-le-mul_right}
+use native.Mathlib.Nat.{suc-mul, zero-mul}
 use native.Mathlib.Numerals.{add-one}
 use native.Mathlib.Omega.{arith}
 use lib.ListN.{length, length-append}
@@ -29,10 +29,6 @@ module _ (terms : Terms) (body : List ℕ) (sound : Sound proved_points body) wh
   hours_length (suc n) p =
       length-append (hours_block terms body n) (hour_block terms body n)
       ∙ omega (arith, hours_length n (omega arith), hour_length n p, suc-mul n (hour_numbers (coordinators_of body)))
-
--- the part of hour h lies within that of all hours
-pub hour_slot : (h n : ℕ) → h < day_hours → h * n + n ≤ day_hours * n
-hour_slot h n p = rw suc-mul at (mul-le-mul_right n p)
 
 pub hours_more : (terms : Terms) (body : List ℕ) (n : ℕ) → hours_block terms body (n + 1) ≡ hours_block terms body n ++ hour_block terms body n
 unfolding hours_block

@@ -54,11 +54,13 @@ fn put_amounts(amounts: Amounts, block: &mut [u8])
     requires { (AmountsRanged amounts) × (8 * amounts_shown ≤ length block.old) }
     ensures { block.new ≡ encoded (shown_of amounts) ++ drop (8 * amounts_shown) block.old }
 {
-    let on = amounts.on;
-    let off = amounts.off;
-    let down = amounts.down;
-    let surcharge = amounts.surcharge;
-    let credit = amounts.credit;
+    let Amounts {
+        on,
+        off,
+        down,
+        surcharge,
+        credit,
+    } = amounts;
     let shown = [on.0, off.0, down.0, surcharge.0, credit.0];
     encoding::put_numbers(&shown, block);
 }
@@ -102,11 +104,9 @@ pub fn write_area(terms: Terms, body: &[u8], statement: &mut [u8])
     let count = words::word(body, 6) as usize;
     let mut at = body::first_hour(load, count);
     let mut to: usize = 0;
-    let mut h: usize = 0;
-    while h < limits::DAY_HOURS {
+    for h in 0..limits::DAY_HOURS {
         write_hour(terms, day, body, h, at, &mut statement[to..]);
         at = body::next_hour(load, count, h, at);
         to += 8 * hour_numbers(count);
-        h += 1;
     }
 }

@@ -6,15 +6,17 @@ use mathlib.Core.List.{List}
 use mathlib.Core.Logic.{dite}
 use native.Mathlib.Decide.{dec_lt}
 use native.Mathlib.Omega.{arith}
-use borrow.Author.Tests.{lt-ltb, le-ltb, le-leb, lt-leb, leb-true, ltb-true, not-true}
+use borrow.Author.Tests.{lt-ltb, le-ltb, le-leb, leb-true, ltb-true, not-true}
 use lib.Dec.{eqb, leb, ltb}
 use lib.ListN.{length}
-use Rattle.verdict.specs.declared.Refusal.TheVariants.{DaysDoNotFit, DateThereOrAbsent}
-use Rattle.verdict.specs.Verdict.{number_of, Accepted}
+use Rattle.verdict.specs.Verdict.{number_of}
 use Rattle.verdict.specs.First.{◌or_else◌}
 use Rattle.verdict.proofs.First.{kept, both, or_next, or_first, or_second}
 use Rattle.contents.specs.File.{day_of}
 use Rattle.dayfile.specs.Check.{check_of}
+use Rattle.dayfile.proofs.Facts.{within_limits, file_length}
+use Rattle.book.specs.Sound.{Sound}
+use Rattle.book.proofs.Kept.{sound_book}
 use Rattle.book.specs.Read.{room_words, count_of, date_at, end_of, day_at, days_from, days_of}
 use Rattle.book.specs.Check.{most_book_days, book_rule}
 use Rattle.keeping_moves.specs.Moves.{most_book_words}
@@ -38,7 +40,8 @@ found room date k (suc m) = pick (eqb (date_at room k) date) (found room date (s
     pick false h = h ∙ both_more (before_first room (same_date date) (suc k) m) m
 
 module _ (room : List ℕ) (date : ℕ) where
-  abbrev missed : ℕ
+  -- the place of its entry; the number of days where there is none
+  abbrev pub missed : ℕ
   missed = before_first room (same_date date) 0 (count_of room)
 
   pub is_there_lem : missed < count_of room → is_there date (days_of room) ≡ true
@@ -48,43 +51,6 @@ module _ (room : List ℕ) (date : ℕ) where
   is_absent h = found room date 0 (count_of room) ∙ le-ltb missed (count_of room) h
 
   module _ (size : ℕ) where
-    pub date_there : missed < count_of room → DateThereOrAbsent ≡ day_rule room date size
-    unfolding day_rule
-    date_there h = rw (is_there_lem h)
-
-    module _ (absent : count_of room ≤ missed) where
-      pub too_many : most_book_days ≤ count_of room → DaysDoNotFit ≡ day_rule room date size
-      unfolding day_rule
-      too_many h = rw (is_absent absent, le-ltb (count_of room) most_book_days h)
-
-      module _ (few : count_of room < most_book_days) where
-        pub too_long : room_words room < end_of room + 3 + size → DaysDoNotFit ≡ day_rule room date size
-        unfolding day_rule
-        too_long h = rw (is_absent absent, lt-ltb (count_of room) most_book_days few, lt-leb (end_of room + 3 + size) (room_words room) h)
-
-        module _ (fits : end_of room + 3 + size ≤ room_words room) where
-          pub past_words : most_book_words < end_of room + 3 + size → DaysDoNotFit ≡ day_rule room date size
-          unfolding day_rule
-          past_words h =
-              rw (
-                is_absent absent,
-                lt-ltb (count_of room) most_book_days few,
-                le-leb (end_of room + 3 + size) (room_words room) fits,
-                lt-leb (end_of room + 3 + size)
-                    most_book_words h,
-              )
-
-          pub day_fits : end_of room + 3 + size ≤ most_book_words → Accepted ≡ day_rule room date size
-          unfolding day_rule
-          day_fits h =
-              rw (
-                is_absent absent,
-                lt-ltb (count_of room) most_book_days few,
-                le-leb (end_of room + 3 + size) (room_words room) fits,
-                le-leb (end_of room + 3 + size)
-                    most_book_words h,
-              )
-
     -- what an accepted day tells
     pub record Taken : Type 0 where
       pub absent : is_there date (days_of room) ≡ false
@@ -114,6 +80,9 @@ module _ (room : List ℕ) (date : ℕ) where
 
 -- ---- the parts of each rule
 
+pub file_long : (file : List ℕ) → number_of (check_of file) ≡ 0 → 16 ≤ length file
+file_long file z = (file_length _ file (within_limits file z)).least
+
 module _ (room file : List ℕ) where
   pub add_parts : add_rule room file ≡ (book_rule room or_else check_of file or_else day_rule room (day_of file) (length file / 4))
   unfolding add_rule
@@ -128,6 +97,12 @@ module _ (room file : List ℕ) where
 
     pub add_file : number_of (check_of file) ≡ 0
     add_file = or_first _ _ (or_second (book_rule room) _ opened)
+
+    pub add_sound : Sound room
+    add_sound = sound_book room add_book
+
+    pub add_long : 16 ≤ length file
+    add_long = file_long file add_file
 
     pub add_taken : Taken room (day_of file) (length file / 4)
     add_taken = day_kept room (day_of file) (length file / 4) (or_second (check_of file) _ (or_second (book_rule room) _ opened))

@@ -1,16 +1,16 @@
 -- An entry by its steps: a refusal leaves the record as it was; past 18 the record is aged and the areas of the day are marked, or there are too many.
 use Prim.Native.Nat.{ℕ, ◌≤◌}
-use Rattle.std.proofs.Common.{Option, Some, None}
+use Rattle.std.proofs.Common.{Option, Some, None, Err}
 use mathlib.Core.List.{List}
 use mathlib.Core.Path.{◌≡◌, sym, ap, ap₂, ◌∙◌}
-use native.Mathlib.Omega.{arith}
 use lib.Dec.{leb}
 use lib.ListN.{length}
 use borrow.Author.Tests.{le-leb, lt-leb, leb-true, eq-eqb, ne_eqb}
 use Rattle.limits.specs.Editions.{most_held}
 use Rattle.verdict.specs.declared.Refusal.TheVariants.{TooManyAreas}
 use Rattle.verdict.specs.Verdict.{number_of, Accepted, Verdict}
-use Rattle.verdict.proofs.First.{or_first, or_second, or_next}
+use Rattle.verdict.specs.First.{◌or_else◌}
+use Rattle.verdict.proofs.First.{or_first, or_second, or_next, or_assoc}
 use Rattle.verdict.proofs.First.{kept as rule_kept}
 use Rattle.contents.specs.File.{day_of, areas_of}
 use Rattle.marking.specs.Marked.{marked_from}
@@ -18,11 +18,12 @@ use Rattle.recording.specs.declared.Record.{Record}
 use Rattle.recording.specs.Record.{entries, record_of, kept, marked_all, answered}
 use Rattle.recording.proofs.InPlace.{entries_of_lem, refused_full, marked_room}
 use Rattle.dayfile.specs.Check.{check_of}
-use Rattle.record_check.specs.Left.{record_rule, days_between}
-use Rattle.entering.specs.Enter.{answer_with, held_then, room_rule, enter_of, record_after, answered_by, entered}
+use Rattle.record_check.specs.Left.{record_rule, admit_rule, days_between}
+use Rattle.entering.specs.Enter.{held_then, room_rule, enter_of, record_after, entered}
 
 module _ (r : Record) (file : List ℕ) where
-  pub refused_so : (v : Verdict) → (number_of v ≡ 0 → ⊥) → answer_with v r ≡ answered_by r file v
+  -- a refusal leaves the record as it was
+  pub refused_so : (v : Verdict) → (number_of v ≡ 0 → ⊥) → r ≡ record_after r file v
   unfolding record_after
   refused_so v h = rw (ne_eqb (number_of v) 0 h)
 
@@ -40,15 +41,20 @@ module _ (r : Record) (file : List ℕ) where
         ∙ ap₂ answered (ap (λ s. s.last) stands)
         (ap₂ (λ m l. marked_all (marked_from file 0 m) l) all (ap entries stands ∙ entries_of_lem (day_of file) _))
 
-    pub too_many : next ≡ None → answer_with TooManyAreas r ≡ answered_by r file (room_rule r file)
-    unfolding room_rule record_after
+    pub too_many : next ≡ None → room_rule r file ≡ Err TooManyAreas
+    unfolding room_rule
     too_many e = rw (lt-leb (length (held_then r file)) most_held (refused_full (day_of file) (held_then r file) (sym e ∙ then-is)))
 
-    pub taken : (after : Record) → next ≡ Some after → answer_with Accepted after ≡ answered_by r file (room_rule r file)
+    pub taken : (after : Record) → next ≡ Some after → (room_rule r file ≡ Accepted) × (after ≡ record_after r file Accepted)
     unfolding room_rule record_after
     taken after e =
         let room = marked_room (day_of file) (held_then r file) after (sym e ∙ then-is) in
-        rw (le-leb (length (held_then r file)) most_held room.0) (ap (answer_with Accepted) room.1)
+        (rw (le-leb (length (held_then r file)) most_held room.0), room.1)
+
+-- the check and the record, then the room
+pub opened : (r : Record) (file : List ℕ) → enter_of r file ≡ (admit_rule r file or_else room_rule r file)
+unfolding enter_of admit_rule
+opened r file = sym (or_assoc (check_of file) (record_rule r (day_of file)) (room_rule r file))
 
 -- ---- what an accepted entry says
 

@@ -11,7 +11,11 @@ use Rattle.recording.specs.declared.Place.{Place}
 use Rattle.recording.specs.declared.Record.{Record}
 use Rattle.recording.specs.Record.{entries, record_of, kept, marked_all, pick}
 use Rattle.record_check.specs.Left.{record_rule, days_between}
-use Rattle.entering.specs.declared.Entered.{Entered}
+
+-- the answer of an entry, and the record afterwards
+pub record Entered : Type 0 where
+  pub answer : Verdict
+  pub after : Record
 
 abbrev pub answer_with : Verdict → Record → Entered
 answer_with verdict after = record { answer = verdict; after = after }

@@ -3,33 +3,14 @@
 
 ghost use Rattle.std.specs.Prelude.{◌≡◌, ◌^◌};
 ghost use Rattle.limits.specs.Ranges.{recorded_days};
-ghost use Rattle.verdict.specs.Verdict.{number_of};
 ghost use Rattle.contents.specs.File.{areas_of};
 ghost use Rattle.marking.specs.Marked.{marked_from};
 ghost use Rattle.recording.specs.Record.{entries, marked_all, Sound, answered};
-ghost use Rattle.record_check.specs.Left.{admit_rule};
 ghost use Rattle.settlement.specs.SoundFile.{SoundFile};
-ghost use Rattle.entering.specs.Enter.{answer_with, room_rule, answered_by, entered};
+ghost use Rattle.entering.specs.Enter.{enter_of, record_after};
 
 use recording::Record;
 use verdict::Refusal;
-
-// The answer of an entry, and the record afterwards: a refusal leaves it as it was.
-#[derive(Clone, Copy)]
-pub struct Entered {
-    pub answer: Verdict,
-    pub after: Record,
-}
-
-// A refusal leaves the record as it was.
-fn refuse(answer: Verdict, given: Record) -> Entered
-    ensures { result ≡ answer_with answer given }
-{
-    Entered {
-        answer,
-        after: given,
-    }
-}
 
 // The day marked for each area of the file that failed, for all of them or for none.
 fn mark_areas(given: Record, file: &[u8], n: usize) -> Option<Record>
@@ -45,32 +26,19 @@ fn mark_areas(given: Record, file: &[u8], n: usize) -> Option<Record>
     Some(so_far)
 }
 
-// Past 18: the record moves on to the day of the file, and the areas that failed are marked, or 19.
-fn enter_after(given: Record, file: &[u8]) -> Entered
-    requires { number_of (admit_rule given file.now) ≡ 0 }
-    ensures { result ≡ answered_by given file.now (room_rule given file.now) }
+// Checks the whole file and the record, then enters the file: the record moves on by the days between, marks past the thirty days go, areas
+// without a mark go, and areas that failed on the day come in. A refusal leaves the record as it was.
+pub fn enter(record: &mut Record, file: &[u8]) -> Result<(), Refusal>
+    ensures value { result ≡ enter_of record.old file.now }
+    ensures record_after { record.new ≡ record_after record.old file.now result }
 {
+    record_check::admit(*record, file)?;
     let date = words::word(file, 1);
     let n = words::word(file, 2) as usize;
-    let aged = recording::age_all(given, date, record_check::gap(given, date));
+    let aged = recording::age_all(*record, date, record_check::gap(*record, date));
     let Some(after) = mark_areas(aged, file, n) else {
-        return refuse(Verdict::TooManyAreas, given);
+        return Err(Refusal::TooManyAreas);
     };
-    Entered {
-        answer: Verdict::Accepted,
-        after,
-    }
-}
-
-// Checks the whole file and the record, then enters the file: the record moves on by the days between, marks past the thirty days go, areas
-// without a mark go, and areas that failed on the day come in.
-pub fn enter(given: Record, file: &[u8]) -> Entered
-    ensures { result ≡ entered given file.now }
-{
-    let told = record_check::admit(given, file);
-    let v = told.answer;
-    if verdict::number(v) != 0 {
-        return refuse(v, given);
-    }
-    enter_after(given, file)
+    *record = after;
+    Ok(())
 }

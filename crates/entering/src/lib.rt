@@ -28,17 +28,17 @@ fn mark_areas(given: Record, file: &[u8], n: usize) -> Option<Record>
 
 // Checks the whole file and the record, then enters the file: the record moves on by the days between, marks past the thirty days go, areas
 // without a mark go, and areas that failed on the day come in. A refusal leaves the record as it was.
-pub fn enter(record: &mut Record, file: &[u8]) -> Result<(), Refusal>
-    ensures value { result ≡ enter_of record.old file.now }
-    ensures record_after { record.new ≡ record_after record.old file.now result }
+pub fn enter(given: &mut Record, file: &[u8]) -> Result<(), Refusal>
+    ensures value { result ≡ enter_of given.old file.now }
+    ensures record_after { given.new ≡ record_after given.old file.now result }
 {
-    record_check::admit(*record, file)?;
+    record_check::admit(*given, file)?;
     let date = words::word(file, 1);
     let n = words::word(file, 2) as usize;
-    let aged = recording::age_all(*record, date, record_check::gap(*record, date));
+    let aged = recording::age_all(*given, date, record_check::gap(*given, date));
     let Some(after) = mark_areas(aged, file, n) else {
         return Err(Refusal::TooManyAreas);
     };
-    *record = after;
+    *given = after;
     Ok(())
 }

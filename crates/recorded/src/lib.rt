@@ -22,11 +22,9 @@ fn recorded_days(given: Record, g: u32, file: &[u8], n: usize) -> [u32; limits::
     ensures { (k : ℕ) → k < areas_of file.now → get_or result k 0 ≡ counted (marks_of (number_at file.now k) (entries given)) g }
 {
     let mut days = [0u32; limits::PROVED_AREAS];
-    let mut k: usize = 0;
-    while k < n {
+    for k in 0..n {
         let marks = recording::marks_of(given, words::word(file, 4 + 3 * k));
         days[k] = marks::count(marks, g);
-        k += 1;
     }
     days
 }
@@ -56,8 +54,6 @@ pub fn settle_recorded(given: Record, file: &[u8], statement: &mut [i64]) -> Res
     ensures value { result ≡ settle_recorded given file.now (length statement.old) }
     ensures statement_after { statement.new ≡ after_recorded given file.now result statement.old }
 {
-    let told = record_check::admit(given, file);
-    told.answer?;
-    let plain = told.plain;
+    let plain = record_check::admit(given, file)?;
     settle_after(plain, given, file, statement)
 }

@@ -40,13 +40,13 @@ age_all-aged-requires c =
 pub mark_areas-requires : goal.mark_areas-requires
 mark_areas-requires c =
     let entry = admitted _ _ (ap number_of (sym c.in_ok-admit.ensures.answer_value)) in
-    let r = c.args.record.now in
+    let r = c.args.given.now in
     let aged = aged_on r c.args.file.now _ _ _ c.age_all-aged.ensures c.gap.ensures c.word-date.ensures in
     (aged_sound _ _ r c.age_all-aged.result (record_before _ _ entry.judged).left.few aged, sound_file _ entry.checked, c.word-n.ensures)
 
 pub returns-in_default-clause-value : goal.returns-in_default-clause-value
 returns-in_default-clause-value c =
-    let r = c.args.record.now in
+    let r = c.args.given.now in
     let f = c.args.file.now in
     let aged = aged_on r f _ _ _ c.age_all-aged.ensures c.gap.ensures c.word-date.ensures in
     sym (seq_next _ _ _ _ (opened r f) (sym c.in_ok-admit.ensures.answer_value)
@@ -57,7 +57,7 @@ returns-in_default-clause-record_after c = refused_so _ _ _ (no_refusal_is_zero 
 
 pub returns : goal.returns
 returns c =
-    let r = c.args.record.now in
+    let r = c.args.given.now in
     let f = c.args.file.now in
     let aged = aged_on r f _ _ _ c.age_all-aged.ensures c.gap.ensures c.word-date.ensures in
     let entry = taken r f _ _ _ aged c.mark_areas.ensures c.word-n.ensures c.in-Some.after c.in-Some.is in

@@ -132,7 +132,7 @@ module _ (file : List ℕ) (k : ℕ) (accepted : number_of (check_of file) ≡ 0
         few = omega (arith, head.some, head.few);
         peak_known = head.peak_known;
         area = by;
-        fits = λ b. omega (
+        fits = λ most e. omega (
           arith,
           size_is limits file checked k below,
           entry.inside,
@@ -140,7 +140,7 @@ module _ (file : List ℕ) (k : ℕ) (accepted : number_of (check_of file) ≡ 0
           own,
           head.some,
           (file_length limits file
-              checked).most_bytes b,
+              checked).most_bytes most e,
         );
       }
     where

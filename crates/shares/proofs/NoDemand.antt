@@ -11,7 +11,7 @@ use Rattle.shares.specs.Shares.{up_to, shares_from, shares, sum}
 use Rattle.shares.proofs.AddsUp.{sum_from}
 
 -- R by 0 is 0
-round_by_zero : (z : ℤ) → round_div z 0 ≡ pos 0
+pub round_by_zero : (z : ℤ) → round_div z 0 ≡ pos 0
 unfolding round_div
 round_by_zero (pos a) = ap pos (div-zero (2 * a + 0))
 round_by_zero (negsuc a) = ap (λ n. neg_ℤ (pos n)) (div-zero (2 * suc a + 0))

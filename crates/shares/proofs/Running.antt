@@ -1,6 +1,8 @@
 -- The running demand: what the demands before place i add up to, as the loops that add them and those that share by them carry it.
-use mathlib.Core.Path.{◌≡◌, sym, ap, ◌∙◌}
+use mathlib.Core.Path.{◌≡◌, refl, sym, ap, ◌∙◌}
 use mathlib.Core.List.{List}
+use Rattle.std.specs.List.{sum}
+use Rattle.std.proofs.lemmas.List.Recursion.{is_sum_by}
 use Prim.Native.Nat.{ℕ, ◌+◌, ◌≤◌, ◌<◌}
 use native.Mathlib.Omega.{arith}
 use lib.ListN.{length, get_or, drop, drop_of_length-le}
@@ -35,3 +37,7 @@ module _ {demands : List ℕ} {c i : ℕ} (r : Running demands c i) where
   pub running_end : {n : ℕ} → length demands ≡ n → n ≤ i → c ≡ total demands
   unfolding total
   running_end long h = omega (arith, ap total (drop_of_length-le demands {i = i} (omega arith)), r.left)
+
+pub total_sum : (l : List ℕ) → total l ≡ sum l
+unfolding total
+total_sum l = is_sum_by total (λ x. x) refl (λ x xs. refl) l

@@ -1,7 +1,7 @@
 // Sharing one amount among coordinators by their running demands, over number slices and over words of a file.
 #![tactic(auto)]
 
-ghost use Rattle.std.specs.Prelude.{◌≡◌, ◌++◌, ◌+◌, ◌*◌, ◌/◌, ◌≤◌, ◌<◌, ◌^◌, true, false, cond, ◌||◌, eqb, leb, ltb, nat_abs, length, drop};
+ghost use Rattle.std.specs.Prelude.{◌≡◌, ◌++◌, ◌+◌, ◌*◌, ◌/◌, ◌≤◌, ◌<◌, ◌^◌, IfSome, cond, ◌||◌, eqb, leb, ltb, nat_abs, ◌-ℤ◌, length, drop};
 ghost use Rattle.exact.specs.Round.{half_up};
 ghost use Rattle.exact.specs.Total.{total};
 ghost use Rattle.words.specs.Bytes.{words_from};
@@ -9,21 +9,17 @@ ghost use Rattle.encoding.specs.Encoding.{encoded};
 ghost use Rattle.limits.specs.Ranges.{most_demand};
 ghost use Rattle.shares.specs.Shares.{up_to, shares};
 ghost use Rattle.shares.specs.Rates.{rate_parts, rates_of};
+ghost use Rattle.shares.specs.Carried.{Begun, carried_on};
 
 // Into so many parts a rate divides a cent: 2^32, so that dividing by them is a shift.
 const RATE_PARTS: u64 = 4294967296;
 
+#[tactic(auto, using(crate::proofs::Running::total_sum))]
 pub fn sum_of_demands(demands: &[u32]) -> u32
     requires { total demands.now < 2 ^ 32 }
     ensures { result ≡ total demands.now }
 {
-    let mut sum: u32 = 0;
-    let mut i: usize = 0;
-    while i < demands.len() {
-        sum += demands[i];
-        i += 1;
-    }
-    sum
+    demands.iter().sum()
 }
 
 // The sum of the demands in `count` words of a file, from word `from` on.
@@ -31,20 +27,17 @@ pub fn sum_of_words(bytes: &[u8], from: usize, count: usize) -> u32
     requires { (4 * (from + count) ≤ length bytes.now) × (total (words_from bytes.now from count) ≤ most_demand) }
     ensures { result ≡ total (words_from bytes.now from count) }
 {
-    let mut sum: u32 = 0;
-    let mut i: usize = 0;
-    while i < count {
+    let mut sum = 0;
+    for i in 0..count {
         sum += words::word(bytes, from + i);
-        i += 1;
     }
     sum
 }
 
 // What an amount A comes to for each thousandth of a demand T: whole cents, what of A these leave over, and of that the 2^32ths of a cent. Two divisions
-// for all of an hour's charges. Where that gains nothing there are no rates, and each charge is divided.
+// for all of an hour's charges.
 #[derive(Clone, Copy)]
 pub struct Rates {
-    pub divided: bool,
     pub each: u64,
     pub rest: u32,
     pub part: u32,
@@ -53,41 +46,23 @@ pub struct Rates {
 // Up to so many coordinators fewer divisions are left than the rates take: the last one's share needs none.
 const DIVIDED_COORDINATORS: usize = 8;
 
-fn no_rates() -> Rates
-    ensures { result.divided ≡ true }
-{
-    Rates {
-        divided: true,
-        each: 0,
-        rest: 0,
-        part: 0,
-    }
-}
-
-// Most hours have no amount, and are spared the divisions.
-fn rates_of(amount: i64, whole: u32, count: usize) -> Rates
+// None where rates gain nothing, and each charge is divided. Most hours have no amount, and are spared the divisions.
+fn rates_of(amount: i64, whole: u32, count: usize) -> Option<Rates>
     requires { whole ≤ most_demand }
-    ensures { result.divided ≡ false → result ≡ rates_of amount whole }
+    ensures { IfSome result (λ rates. rates ≡ rates_of amount whole) }
 {
-    if count <= DIVIDED_COORDINATORS {
-        return no_rates();
-    }
-    if whole == 0 {
-        return no_rates();
-    }
-    if amount == 0 {
-        return no_rates();
+    if count <= DIVIDED_COORDINATORS || whole == 0 || amount == 0 {
+        return None;
     }
     let size = exact::absolute(amount);
     let divisor = whole as u64;
     let rest = size % divisor;
     let part = rest * RATE_PARTS / divisor;
-    Rates {
-        divided: false,
+    Some(Rates {
         each: size / divisor,
         rest: rest as u32,
         part: part as u32,
-    }
+    })
 }
 
 // 1 where a number has reached a bound, and 0 below it: no branch, since the processor could not foretell it.
@@ -112,8 +87,8 @@ fn nearest(whole: u32, rates: Rates, running: u32) -> u64
 }
 
 // R(A × C / T) at running demand C; 0 where there is no demand.
-fn up_to(amount: i64, whole: u32, rates: Rates, running: u32) -> i64
-    requires { (rates.divided ≡ false → rates ≡ rates_of amount whole) × ((running ≤ whole) × ((whole ≤ most_demand) × (nat_abs amount * whole < 2 ^ 63))) }
+fn up_to(amount: i64, whole: u32, rates: Option<Rates>, running: u32) -> i64
+    requires { IfSome rates (λ rates. rates ≡ rates_of amount whole) × ((running ≤ whole) × ((whole ≤ most_demand) × (nat_abs amount * whole < 2 ^ 63))) }
     ensures { result ≡ up_to amount whole running }
 {
     if whole == 0 {
@@ -125,9 +100,9 @@ fn up_to(amount: i64, whole: u32, rates: Rates, running: u32) -> i64
     if running == whole {
         return amount;
     }
-    if rates.divided {
+    let Some(rates) = rates else {
         return exact::round_div(exact::times(amount, running), whole);
-    }
+    };
     let next = nearest(whole, rates, running) as i64;
     if amount < 0 {
         return 0 - next;
@@ -135,23 +110,52 @@ fn up_to(amount: i64, whole: u32, rates: Rates, running: u32) -> i64
     next
 }
 
-// One rounding a coordinator: the one up to the coordinator before is carried on.
+// An amount on its way through the running demands.
+#[derive(Clone, Copy)]
+pub struct Carried {
+    pub amount: i64,
+    pub whole: u32,
+    pub rates: Option<Rates>,
+    pub running: u32,
+    // R up to the running demand
+    pub before: i64,
+}
+
+impl Carried {
+    fn begin(amount: i64, whole: u32, count: usize) -> Carried
+        requires { (whole ≤ most_demand) × (nat_abs amount * whole < 2 ^ 63) }
+        ensures { (Begun result) × ((result.amount ≡ amount) × ((result.whole ≡ whole) × (result.running ≡ 0))) }
+    {
+        Carried {
+            amount,
+            whole,
+            rates: rates_of(amount, whole, count),
+            running: 0,
+            before: 0,
+        }
+    }
+
+    // One rounding a coordinator: the one up to the coordinator before is carried on.
+    fn charge(&mut self, demand: u32) -> i64
+        requires { (Begun self.old) × (self.old.running + demand ≤ self.old.whole) }
+        ensures charged { result ≡ up_to self.old.amount self.old.whole (self.old.running + demand) -ℤ self.old.before }
+        ensures carried_on { self.new ≡ carried_on self.old demand }
+    {
+        self.running += demand;
+        let next = up_to(self.amount, self.whole, self.rates, self.running);
+        let charge = next - self.before;
+        self.before = next;
+        charge
+    }
+}
+
 pub fn share_demands(amount: i64, demands: &[u32], charges: &mut [i64])
     requires { (nat_abs amount * total demands.now < 2 ^ 63) × ((total demands.now ≤ most_demand) × (length demands.now ≤ length charges.old)) }
     ensures { charges.new ≡ shares amount demands.now ++ drop (length demands.now) charges.old }
 {
-    let whole = sum_of_demands(demands);
-    let rates = rates_of(amount, whole, demands.len());
-    let mut running: u32 = 0;
-    let mut before: i64 = 0;
-    let mut i: usize = 0;
-    while i < demands.len() {
-        let demand = demands[i];
-        running += demand;
-        let next = up_to(amount, whole, rates, running);
-        charges[i] = next - before;
-        before = next;
-        i += 1;
+    let mut carried = Carried::begin(amount, sum_of_demands(demands), demands.len());
+    for (i, demand) in demands.iter().enumerate() {
+        charges[i] = carried.charge(*demand);
     }
 }
 
@@ -161,19 +165,11 @@ pub fn share_words(amount: i64, bytes: &[u8], from: usize, count: usize, charges
         × ((4 * (from + count) ≤ length bytes.now) × (8 * count ≤ length charges.old))) }
     ensures { charges.new ≡ encoded (shares amount (words_from bytes.now from count)) ++ drop (8 * count) charges.old }
 {
-    let whole = sum_of_words(bytes, from, count);
-    let rates = rates_of(amount, whole, count);
-    let mut running: u32 = 0;
-    let mut before: i64 = 0;
-    let mut i: usize = 0;
-    while i < count {
-        let demand = words::word(bytes, from + i);
-        running += demand;
-        let next = up_to(amount, whole, rates, running);
+    let mut carried = Carried::begin(amount, sum_of_words(bytes, from, count), count);
+    for i in 0..count {
+        let charge = carried.charge(words::word(bytes, from + i));
         let to = 8 * i;
-        encoding::put_number(next - before, &mut charges[to..]);
-        before = next;
-        i += 1;
+        encoding::put_number(charge, &mut charges[to..]);
     }
 }
 

@@ -22,8 +22,7 @@ fn put_areas(file: &[u8], bytes: &mut [u8])
     let n = words::word(file, 2) as usize;
     let peak = words::word(file, 3);
     let mut to: usize = 0;
-    let mut k: usize = 0;
-    while k < n {
+    for k in 0..n {
         let body = contents::body_at(file, k);
         let terms = Terms {
             peak,
@@ -31,7 +30,6 @@ fn put_areas(file: &[u8], bytes: &mut [u8])
         };
         statement::write_area(terms, body, &mut bytes[to..]);
         to += 8 * statement::area_numbers(words::word(body, 6) as usize);
-        k += 1;
     }
 }
 
@@ -42,9 +40,8 @@ pub fn rse8080_settle(file: &[u8], statement: &mut [u8]) -> u64
         ≡ bytes_after (verdict_of file.now statement.old) file.now statement.old }
 {
     let answer = settlement::answer(file, statement.len() / 8);
-    if verdict::number(answer) != 0 {
-        return verdict::code(answer);
+    if answer.is_ok() {
+        put_areas(file, statement);
     }
-    put_areas(file, statement);
     verdict::code(answer)
 }

@@ -6,6 +6,7 @@ use mathlib.Core.Path.{◌≡◌, sym, ◌∙◌}
 use native.Mathlib.Decide.{ℕ_discrete}
 use native.Mathlib.Omega.{arith}
 use borrow.Author.Tests.{le-leb, lt-leb}
+use Rattle.std.specs.Prelude.{Err}
 use Rattle.verdict.specs.declared.Refusal.TheVariants.{RoomTooShort}
 use Rattle.verdict.specs.Verdict.{number_of, coded, Verdict}
 use Rattle.verdict.proofs.Accepted.{accepted_place}
@@ -36,7 +37,7 @@ module _ (file : List ℕ) where
     past_check : (room : ℕ) → settle_of file room ≡ accepted_rule (days_by own_days file) file room
     past_check room = opened file room ∙ or_next (check_of file) _ passes
 
-    pub by_room : (room : ℕ) → room < numbers_needed file → settle_of file room ≡ RoomTooShort (numbers_needed file)
+    pub by_room : (room : ℕ) → room < numbers_needed file → settle_of file room ≡ Err (RoomTooShort (numbers_needed file))
     unfolding accepted_rule
     by_room room h = past_check room ∙ rw (lt-leb (numbers_needed file) room h)
 

@@ -1,5 +1,5 @@
 -- "The result is that of settling them one by one": what the settlement of a book leaves, `left` of the statement and `told` of the table.
-use Rattle.std.specs.Prelude.{ℕ, ◌+◌, ◌-◌, ◌≤◌, ◌<◌, List, ◌≡◌, ℤ, length, get_or, take, drop}
+use Rattle.std.specs.Prelude.{ℕ, ◌+◌, ◌-◌, ◌≤◌, ◌<◌, List, ◌≡◌, ℤ, length, get_or, take, drop, Err}
 use Rattle.verdict.specs.declared.Refusal.TheVariants.{RoomTooShort}
 use Rattle.verdict.specs.Verdict.{number_of, coded}
 use Rattle.dayfile.specs.Check.{check_of}
@@ -37,7 +37,7 @@ module _ (room : List ℕ) (i : ℕ) where
   pub record OnceThirteen (statement left : List ℤ) (told : List ℕ) : Type 0 where
     -- "it and every later day that passes its check get 13, each with its own numbers needed": whatever the room, and also where 16, 11 or 12 would refuse it
     pub thirteen : (j : ℕ) → i ≤ j → j < count_of room → number_of (check_of (file_in (days_of room) j)) ≡ 0
-        → get_or told j 0 ≡ coded (RoomTooShort (numbers_needed (file_in (days_of room) j)))
+        → get_or told j 0 ≡ coded (Err (RoomTooShort (numbers_needed (file_in (days_of room) j))))
     -- a later day that its check refuses gets what the check says
     pub checked : (j : ℕ) → i ≤ j → j < count_of room → (number_of (check_of (file_in (days_of room) j)) ≡ 0 → ⊥)
         → get_or told j 0 ≡ coded (check_of (file_in (days_of room) j))

@@ -10,6 +10,7 @@ use native.Mathlib.Omega.{arith}
 use lib.Dec.{leb, ltb}
 use lib.ListN.{length}
 use Rattle.limits.specs.Editions.{most_held}
+use Rattle.std.specs.Prelude.{Err}
 use Rattle.verdict.specs.declared.Refusal.TheVariants.{BadRecord}
 use Rattle.verdict.specs.Verdict.{number_of, Verdict}
 use Rattle.verdict.specs.First.{◌or_else◌}
@@ -99,7 +100,7 @@ module _ (r : Record) (whole : length r.places ≡ most_held) (file : List ℕ) 
       by true q = let z = rw (left_passes r g, q) at e in omega arith
       by false q = let z = rw (left_passes r g, q) at e in omega arith
 
-  bad-stops : record_left r ≡ false → judged ≡ BadRecord
+  bad-stops : record_left r ≡ false → judged ≡ Err BadRecord
   unfolding record_rule
   bad-stops f = rw f
 

@@ -12,6 +12,7 @@ use lib.ListN.{length}
 use borrow.Author.Tests.{eqb-true, eq-eqb, eqb-false, ne_eqb, leb-true, le-leb, leb-false, lt-leb, ltb-false, le-ltb}
 use Rattle.exact.specs.Total.{total}
 use Rattle.limits.specs.Ranges.{least_present}
+use Rattle.std.specs.Prelude.{Err}
 use Rattle.verdict.specs.declared.Refusal.TheVariants.{PriceWithoutQuantity, AmountWithoutDemand, TooFewIntervals}
 use Rattle.verdict.specs.Verdict.{number_of, place_of, Accepted, Verdict}
 use Rattle.verdict.specs.First.{rule◌else◌then◌, ◌or_else◌}
@@ -37,16 +38,16 @@ module _ (at from : ℕ) where
       cond needed (rule enough else TooFewIntervals at then rule not without else PriceWithoutQuantity at then Accepted) Accepted
       or_else (rule charged else AmountWithoutDemand from then Accepted)
 
-  few-says : (without charged : Bool) → hour true false without charged ≡ TooFewIntervals at
+  few-says : (without charged : Bool) → hour true false without charged ≡ Err (TooFewIntervals at)
   unfolding ◌or_else◌
   few-says without charged = refl
 
-  without-says : (charged : Bool) → hour true true true charged ≡ PriceWithoutQuantity at
+  without-says : (charged : Bool) → hour true true true charged ≡ Err (PriceWithoutQuantity at)
   unfolding ◌or_else◌
   without-says charged = refl
 
   uncharged-says : (needed enough without : Bool) → (needed ≡ true → (enough ≡ true) × (without ≡ false))
-      → hour needed enough without false ≡ AmountWithoutDemand from
+      → hour needed enough without false ≡ Err (AmountWithoutDemand from)
   unfolding ◌or_else◌
   uncharged-says true enough without is = rw ((is refl).0, (is refl).1)
   uncharged-says false enough without is = refl
@@ -114,12 +115,12 @@ module _ (d : ℕ → List ℕ → ℕ) (file : List ℕ) (k h : ℕ) where
 
   -- ---- what an hour answers, by why it refuses
 
-  sixteen-hour : TooFewSeen d file k h → hour_verdict d file k h ≡ TooFewIntervals (first_interval d file k h)
+  sixteen-hour : TooFewSeen d file k h → hour_verdict d file k h ≡ Err (TooFewIntervals (first_interval d file k h))
   sixteen-hour few =
       rw (hour-is, few.0, lt-leb (least_present * points_of body) (length (present_at body h)) few.1)
       (few-says (first_interval d file k h) (first_demand d file k h) without (chargeable terms body h))
 
-  eleven-hour : PriceWithout d file k h → hour_verdict d file k h ≡ PriceWithoutQuantity (first_interval d file k h)
+  eleven-hour : PriceWithout d file k h → hour_verdict d file k h ≡ Err (PriceWithoutQuantity (first_interval d file k h))
   eleven-hour w =
       rw (hour-is, w.0, le-leb (least_present * points_of body) (length (present_at body h)) w.1, eq-eqb (quantity_under body h) 0 w.2)
       (without-says (first_interval d file k h) (first_demand d file k h) (chargeable terms body h))
@@ -132,7 +133,7 @@ module _ (d : ℕ → List ℕ → ℕ) (file : List ℕ) (k h : ℕ) where
       by true e = (e, ne_eqb _ _ (λ none. t.1 (n, leb-true _ _ e, none)))
       by false e = absurd (t.0 (n, leb-false _ _ e))
 
-  twelve-hour : OnlyNobodyToCharge d file k h → hour_verdict d file k h ≡ AmountWithoutDemand (first_demand d file k h)
+  twelve-hour : OnlyNobodyToCharge d file k h → hour_verdict d file k h ≡ Err (AmountWithoutDemand (first_demand d file k h))
   twelve-hour t =
       rw (hour-is, not-chargeable t.2) (uncharged-says (first_interval d file k h) (first_demand d file k h) needed enough without (usable t))
 
@@ -230,17 +231,17 @@ SixteenElevenOrTwelve d =
 
 pub sixteen_exactly_by : (d : ℕ → List ℕ → ℕ) → SixteenExactly d
 sixteen_exactly_by d file room p =
-    exactly d file room 16 p (omega arith) (λ q. omega arith) (TooFewSeen d file) (first_interval d file) TooFewIntervals (λ _. refl) (λ _. refl)
+    exactly d file room 16 p (omega arith) (λ q. omega arith) (TooFewSeen d file) (first_interval d file) (λ p. Err (TooFewIntervals p)) (λ _. refl) (λ _. refl)
     (hour-sixteen d file) (sixteen-hour d file)
 
 pub eleven_exactly_by : (d : ℕ → List ℕ → ℕ) → ElevenExactly d
 eleven_exactly_by d file room p =
-    exactly d file room 11 p (omega arith) (λ q. omega arith) (PriceWithout d file) (first_interval d file) PriceWithoutQuantity (λ _. refl) (λ _. refl)
+    exactly d file room 11 p (omega arith) (λ q. omega arith) (PriceWithout d file) (first_interval d file) (λ p. Err (PriceWithoutQuantity p)) (λ _. refl) (λ _. refl)
     (hour-eleven d file) (eleven-hour d file)
 
 pub twelve_exactly_by : (d : ℕ → List ℕ → ℕ) → TwelveExactly d
 twelve_exactly_by d file room p =
-    exactly d file room 12 p (omega arith) (λ q. omega arith) (OnlyNobodyToCharge d file) (first_demand d file) AmountWithoutDemand (λ _. refl) (λ _. refl)
+    exactly d file room 12 p (omega arith) (λ q. omega arith) (OnlyNobodyToCharge d file) (first_demand d file) (λ p. Err (AmountWithoutDemand p)) (λ _. refl) (λ _. refl)
     (hour-twelve d file) (twelve-hour d file)
 
 pub sixteen_eleven_or_twelve_by : (d : ℕ → List ℕ → ℕ) → SixteenElevenOrTwelve d

@@ -11,6 +11,7 @@ use lib.IntN.{ℤ}
 use lib.ListN.{length, drop}
 use borrow.Author.Tests.{le-leb, lt-leb}
 use Rattle.limits.specs.Ranges.{day_hours}
+use Rattle.std.specs.Prelude.{Err}
 use Rattle.verdict.specs.declared.Refusal.TheVariants.{RoomTooShort}
 use Rattle.verdict.specs.Verdict.{number_of, Verdict}
 use Rattle.verdict.specs.First.{scan}
@@ -56,7 +57,7 @@ module _ (d : ℕ → List ℕ → ℕ) where
       unfolding settle_with
       by_check r = or_stop (check_of file) _ r
 
-      by_room : number_of (check_of file) ≡ 0 → room < numbers_needed file → settle_by d file room ≡ RoomTooShort (numbers_needed file)
+      by_room : number_of (check_of file) ≡ 0 → room < numbers_needed file → settle_by d file room ≡ Err (RoomTooShort (numbers_needed file))
       unfolding settle_with accepted_rule
       by_room z short = or_next (check_of file) _ z ∙ rw (lt-leb (numbers_needed file) room short)
 

@@ -1,5 +1,5 @@
 -- When settlement under d refuses, and what it answers then: what the check says; else 13; else what the first hour that refuses says.
-use Rattle.std.specs.Prelude.{ℕ, ◌+◌, ◌*◌, ◌≤◌, ◌<◌, true, List, ◌⊎◌, ◌≡◌, nat_abs, length}
+use Rattle.std.specs.Prelude.{ℕ, ◌+◌, ◌*◌, ◌≤◌, ◌<◌, true, List, ◌⊎◌, ◌≡◌, nat_abs, length, Err}
 use Rattle.exact.specs.Total.{total}
 use Rattle.limits.specs.Ranges.{day_hours, least_present}
 use Rattle.verdict.specs.declared.Refusal.TheVariants.{RoomTooShort}
@@ -41,7 +41,7 @@ pub record CheckRefuses (file : List ℕ) (answer : Verdict) : Type 0 where
 pub record RoomShort (file : List ℕ) (room : ℕ) (answer : Verdict) : Type 0 where
   pub checked : number_of (check_of file) ≡ 0
   pub short : room < numbers_needed file
-  pub answered : answer ≡ RoomTooShort (numbers_needed file)
+  pub answered : answer ≡ Err (RoomTooShort (numbers_needed file))
 
 pub record HourRefuses (d : ℕ → List ℕ → ℕ) (file : List ℕ) (room : ℕ) (answer : Verdict) : Type 0 where
   pub checked : number_of (check_of file) ≡ 0

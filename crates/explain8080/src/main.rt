@@ -17,7 +17,7 @@ ghost use Rattle.settlement.specs.SoundFile.{SoundFile};
 use locating::{Field, Place};
 use std::io;
 use surcharge::{Day, Terms};
-use verdict::Verdict;
+use verdict::Refusal;
 
 // ---- the parts of a settled file
 
@@ -874,9 +874,9 @@ fn show_placed(
     show_intervals_seen(rt, file, number, at, place.entry)
 }
 
-fn show_refused(rt: &impl Print, file: &[u8], answer: Verdict) -> io::Result<()> {
-    let number = verdict::number(answer);
-    let place = verdict::place(answer);
+fn show_refused(rt: &impl Print, file: &[u8], refusal: Refusal) -> io::Result<()> {
+    let number = refusal.number();
+    let place = refusal.place();
     if number == 1 {
         return show_unplaced(rt, number, place, b"\tfile\t0\t0\t0\tbytes\t0", file.len());
     }
@@ -895,11 +895,10 @@ fn show_refused(rt: &impl Print, file: &[u8], answer: Verdict) -> io::Result<()>
 // Prints what the charges of a day that is settled come from, or where it is refused.
 fn explain(rt: &impl Print, file: &[u8]) -> io::Result<()> {
     let mut statement = reading::statement_room();
-    let answer = settlement::settle(file, &mut statement);
-    if verdict::number(answer) != 0 {
-        return show_refused(rt, file, answer);
+    match settlement::settle(file, &mut statement) {
+        Ok(()) => show_settled(rt, file, &statement),
+        Err(refusal) => show_refused(rt, file, refusal),
     }
-    show_settled(rt, file, &statement)
 }
 
 // Reads the file, and prints what is said of it.

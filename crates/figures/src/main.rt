@@ -7,7 +7,7 @@
 use recording::Record;
 use sharing::Row;
 use std::io;
-use verdict::Verdict;
+use verdict::Refusal;
 
 // Words of an hour.
 const UPWARD: u8 = 0;
@@ -113,7 +113,7 @@ fn put_deficiency(day: [u8; ROOM], hour: u8, upward: u32, requirement: u32) -> [
     set(day, hour, REQUIREMENT, requirement)
 }
 
-fn show_verdict(rt: &impl Print, answer: Verdict) -> io::Result<()> {
+fn show_verdict(rt: &impl Print, answer: Result<(), Refusal>) -> io::Result<()> {
     show::space(rt)?;
     show::unsigned(rt, verdict::number(answer) as u64)?;
     show::space(rt)?;
@@ -406,13 +406,12 @@ fn entered(
     upward: u32,
 ) -> io::Result<Record> {
     let day = short_day(date, upward);
-    let entry = entering::enter(given, &day[0..DAY_BYTES]);
-    let answer = entry.answer;
+    let mut record = given;
+    let answer = entering::enter(&mut record, &day[0..DAY_BYTES]);
     show::text(rt, label)?;
     show_verdict(rt, answer)?;
-    let after = entry.after;
-    show_record(rt, after)?;
-    Ok(after)
+    show_record(rt, record)?;
+    Ok(record)
 }
 
 fn settled_with(rt: &impl Print, label: &[u8], given: Record, date: u32) -> io::Result<()> {

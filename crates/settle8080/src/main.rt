@@ -7,7 +7,7 @@ ghost use Rattle.limits.specs.Ranges.{most_coordinators};
 ghost use Rattle.limits.specs.Editions.{most_areas};
 
 use std::io;
-use verdict::Verdict;
+use verdict::Refusal;
 
 // A word that says how many there are. An accepted file says no more than `most`.
 fn count(word: u32, most: u32) -> usize
@@ -26,11 +26,11 @@ fn coordinators(body: &[u8]) -> usize
     count(locating::word(body, 6), limits::MOST_COORDINATORS as u32)
 }
 
-fn show_refusal(rt: &impl Print, answer: Verdict) -> io::Result<()> {
+fn show_refusal(rt: &impl Print, refusal: Refusal) -> io::Result<()> {
     show::text(rt, b"refused ")?;
-    show::unsigned(rt, verdict::number(answer) as u64)?;
+    show::unsigned(rt, refusal.number() as u64)?;
     show::space(rt)?;
-    show::unsigned(rt, verdict::place(answer) as u64)?;
+    show::unsigned(rt, refusal.place() as u64)?;
     show::end(rt)
 }
 
@@ -152,11 +152,10 @@ fn show_statement(rt: &impl Print, file: &[u8], statement: &[i64]) -> io::Result
 // Prints the charges of a day that is settled, or why it is refused.
 fn settle(rt: &impl Print, file: &[u8]) -> io::Result<()> {
     let mut statement = reading::statement_room();
-    let answer = settlement::settle(file, &mut statement);
-    if verdict::number(answer) != 0 {
-        return show_refusal(rt, answer);
+    match settlement::settle(file, &mut statement) {
+        Ok(()) => show_statement(rt, file, &statement),
+        Err(refusal) => show_refusal(rt, refusal),
     }
-    show_statement(rt, file, &statement)
 }
 
 // Reads the file, and prints what it comes to.

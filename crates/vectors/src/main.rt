@@ -10,7 +10,7 @@ use record_words::RECORD_WORDS;
 use recording::Record;
 use sharing::{ROWS_BY_VALUE, Row};
 use std::io;
-use verdict::Verdict;
+use verdict::Refusal;
 
 // Room for a payload: a month book of many days.
 fn payload_room() -> [u8; 262144]
@@ -31,7 +31,7 @@ fn bad_case(rt: &impl Print) -> io::Result<bool> {
     Ok(false)
 }
 
-fn show_verdict(rt: &impl Print, answer: Verdict) -> io::Result<()> {
+fn show_verdict(rt: &impl Print, answer: Result<(), Refusal>) -> io::Result<()> {
     show::unsigned(rt, verdict::number(answer) as u64)?;
     show::space(rt)?;
     show::unsigned(rt, verdict::place(answer) as u64)
@@ -222,13 +222,10 @@ fn enter(rt: &impl Print, payload: &[u8]) -> io::Result<bool> {
     if payload.len() < 4 * RECORD_WORDS {
         return bad_case(rt);
     }
-    let given = record_of(payload);
+    let mut record = record_of(payload);
     let file = &payload[4 * RECORD_WORDS..];
-    let entered = entering::enter(given, file);
-    let answer = entered.answer;
-    show_verdict(rt, answer)?;
-    let after = entered.after;
-    show_record(rt, after)?;
+    show_verdict(rt, entering::enter(&mut record, file))?;
+    show_record(rt, record)?;
     Ok(true)
 }
 

@@ -33,6 +33,19 @@ pub struct Amounts {
     pub credit: Cents,
 }
 
+// An hour of an area's day.
+#[derive(Clone, Copy)]
+pub struct DayHour<'a> {
+    pub terms: Terms,
+    // the facts of the day
+    pub day: Day,
+    pub body: &'a [u8],
+    pub h: usize,
+    // the word of the body at which the hour starts
+    pub at: usize,
+    ghost stands: { AtHour terms day body.now h at },
+}
+
 // U of the hour that starts at word `at`.
 #[tactic(auto, unfolding(crate::specs::Amounts::upward_from))]
 pub fn upward(body: &[u8], at: usize) -> Quantity
@@ -124,28 +137,87 @@ pub fn hour_price(body: &[u8], load: usize, from: usize) -> Result<Priced, Price
     price::average_price(&body[start..end], 12 * load)
 }
 
-// Whether an amount of hour h, which starts at word `at`, asks for the hour's price.
-#[tactic(auto, using(crate::proofs::Hours::hour_there))]
-fn price_asked(terms: Terms, day: Day, body: &[u8], h: usize, at: usize) -> bool
-    requires { AtHour terms day body.now h at }
-    ensures { result ≡ price_needed terms body.now h }
-{
-    let facts = hour_facts(true, body, at);
-    let peak = surcharge::peak_hour(terms, h);
-    surcharge::price_needed(words::word(body, 1), peak, day.tier, facts.tier)
-}
-
-// The price of hour h, which starts at word `at`, where an amount asks for it, and 0 where none does.
-#[tactic(auto, using(crate::proofs::Hours::hour_there), unfolding(crate::specs::Amounts::needed_price))]
-pub fn needed_price(terms: Terms, day: Day, body: &[u8], h: usize, at: usize) -> MarketPrice
-    requires { AtHour terms day body.now h at }
-    ensures { result.0 ≡ needed_price terms body.now h }
-{
-    if !price_asked(terms, day, body, h, at) {
-        return MarketPrice(0);
+impl<'a> DayHour<'a> {
+    // Whether an amount of the hour asks for its price.
+    #[tactic(auto, using(crate::proofs::Hours::hour_there))]
+    fn price_asked(self) -> bool
+        ensures { result ≡ price_needed self.entry.terms self.entry.body.now self.entry.h }
+    {
+        let facts = hour_facts(true, self.body, self.at);
+        let peak = surcharge::peak_hour(self.terms, self.h);
+        surcharge::price_needed(words::word(self.body, 1), peak, self.day.tier, facts.tier)
     }
-    let load = words::word(body, 5) as usize;
-    MarketPrice(price::price_of(hour_price(body, load, at + 8)))
+
+    // The price of the hour's interval pairs.
+    pub fn price(self) -> Result<Priced, PriceRefusal>
+        ensures { result ≡ price_from self.entry.body.now (self.entry.at + 8) }
+    {
+        let load = words::word(self.body, 5) as usize;
+        hour_price(self.body, load, self.at + 8)
+    }
+
+    // The price of the hour where an amount asks for it, and 0 where none does.
+    #[tactic(auto, unfolding(crate::specs::Amounts::needed_price))]
+    pub fn needed_price(self) -> MarketPrice
+        ensures { result.0 ≡ needed_price self.entry.terms self.entry.body.now self.entry.h }
+    {
+        if !self.price_asked() {
+            return MarketPrice(0);
+        }
+        MarketPrice(price::price_of(self.price()))
+    }
+
+    // What the price refuses, where it is needed, in the body that starts at word `start` of the file.
+    #[tactic(auto, unfolding(crate::specs::Amounts::price_rule))]
+    pub fn check_price(self, start: usize) -> Result<(), Refusal>
+        requires { start < 4294967296 }
+        ensures { result ≡ price_rule self.entry.terms start self.entry.body.now self.entry.h }
+    {
+        if !self.price_asked() {
+            return Ok(());
+        }
+        let load = words::word(self.body, 5) as usize;
+        usable(start + (self.at + 8), load, self.price())
+    }
+
+    // The amounts of the hour at its price.
+    #[tactic(auto, using(crate::proofs::Hours::hour_there))]
+    pub fn amounts(self, price: MarketPrice) -> Amounts
+        requires { price.0 ≡ needed_price self.terms self.body.now self.h }
+        ensures { result ≡ amounts_of self.entry.terms self.entry.body.now self.entry.h }
+    {
+        let flag = words::word(self.body, 1);
+        if flag != 1 {
+            return Amounts {
+                on: Cents(0),
+                off: Cents(0),
+                down: Cents(0),
+                surcharge: Cents(0),
+                credit: Cents(0),
+            };
+        }
+        let down = down_amount(self.terms, self.body, self.at);
+        let facts = hour_facts(true, self.body, self.at);
+        let upward = facts.upward;
+        let tier = facts.tier;
+        if surcharge::peak_hour(self.terms, self.h) {
+            let on_peak = surcharge::on_peak(self.day, tier, price);
+            return Amounts {
+                on: on_peak.amount,
+                off: Cents(0),
+                down,
+                surcharge: self.day.shown,
+                credit: on_peak.credit,
+            };
+        }
+        Amounts {
+            on: Cents(0),
+            off: surcharge::off_peak(self.terms, upward, tier, price),
+            down,
+            surcharge: Cents(0),
+            credit: Cents(0),
+        }
+    }
 }
 
 fn down_amount(terms: Terms, body: &[u8], at: usize) -> Cents
@@ -154,53 +226,6 @@ fn down_amount(terms: Terms, body: &[u8], at: usize) -> Cents
 {
     let mec = MarketPrice(words::signed(words::word(body, at + 7)));
     surcharge::downward(terms, downward_quantity(body, at), mec)
-}
-
-// The amounts of hour h, which starts at word `at`, at its price. `day` has the facts of the area's day.
-#[tactic(auto, using(crate::proofs::Hours::hour_there))]
-pub fn hour_amounts(
-    terms: Terms,
-    day: Day,
-    price: MarketPrice,
-    body: &[u8],
-    h: usize,
-    at: usize,
-) -> Amounts
-    requires at_hour { AtHour terms day body.now h at }
-    requires price_is_needed { price.0 ≡ needed_price terms body.now h }
-    ensures { result ≡ amounts_of terms body.now h }
-{
-    let flag = words::word(body, 1);
-    if flag != 1 {
-        return Amounts {
-            on: Cents(0),
-            off: Cents(0),
-            down: Cents(0),
-            surcharge: Cents(0),
-            credit: Cents(0),
-        };
-    }
-    let down = down_amount(terms, body, at);
-    let facts = hour_facts(true, body, at);
-    let upward = facts.upward;
-    let tier = facts.tier;
-    if surcharge::peak_hour(terms, h) {
-        let on_peak = surcharge::on_peak(day, tier, price);
-        return Amounts {
-            on: on_peak.amount,
-            off: Cents(0),
-            down,
-            surcharge: day.shown,
-            credit: on_peak.credit,
-        };
-    }
-    Amounts {
-        on: Cents(0),
-        off: surcharge::off_peak(terms, upward, tier, price),
-        down,
-        surcharge: Cents(0),
-        credit: Cents(0),
-    }
 }
 
 // A, the hour's three amounts added.
@@ -223,24 +248,4 @@ fn usable(place: usize, load: usize, answer: Result<Priced, PriceRefusal>) -> Re
         return Err(Refusal::PriceWithoutQuantity { place });
     }
     Ok(())
-}
-
-// What the price of hour h refuses, where it is needed, in the body that starts at word `start` of the file.
-#[tactic(auto, using(crate::proofs::Hours::hour_there), unfolding(crate::specs::Amounts::price_rule))]
-pub fn check_price(
-    terms: Terms,
-    day: Day,
-    start: usize,
-    body: &[u8],
-    h: usize,
-    at: usize,
-) -> Result<(), Refusal>
-    requires { (AtHour terms day body.now h at) × (start < 4294967296) }
-    ensures { result ≡ price_rule terms start body.now h }
-{
-    if !price_asked(terms, day, body, h, at) {
-        return Ok(());
-    }
-    let load = words::word(body, 5) as usize;
-    usable(start + (at + 8), load, hour_price(body, load, at + 8))
 }

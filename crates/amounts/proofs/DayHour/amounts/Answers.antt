@@ -4,32 +4,30 @@ use Rattle.amounts.proofs.Hours.{hour_there}
 use Rattle.amounts.proofs.Quantities.{upward_small}
 use Rattle.amounts.proofs.AmountSizes.{needed_small}
 use Rattle.amounts.proofs.HourAmounts.{day_ranged, without_flag, in_peak, outside_peak}
-use Rattle.amounts.proofs.hour_amounts.Goals as goal
+use Rattle.amounts.proofs.DayHour.amounts.Goals as goal
 
 pub returns-then-flag-ne1 : goal.returns-then-flag-ne1
 returns-then-flag-ne1 c = without_flag _ _ _ (λ q. c.if-flag-ne1.true (c.word-flag.ensures ∙ q))
 
 pub on_peak-on_peak-requires : goal.on_peak-on_peak-requires
 on_peak-on_peak-requires c =
-    let k = c.requires.at_hour in
-    (day_ranged k, rw c.requires.price_is_needed (needed_small c.args.body.now k.sound c.args.h k.below c.args.terms))
+    let k = c.args.self.stands in
+    (day_ranged k, rw c.requires (needed_small c.args.self.body.now k.sound c.args.self.h k.below c.args.self.terms))
 
 pub returns-then-peak_hour : goal.returns-then-peak_hour
 returns-then-peak_hour c =
-    let r = c.requires in
-    in_peak r.at_hour (sym c.word-flag.ensures ∙ c.if-flag-ne1.false) r.price_is_needed c.hour_facts-facts.ensures c.down_amount-down.ensures
+    in_peak c.args.self.stands (sym c.word-flag.ensures ∙ c.if-flag-ne1.false) c.requires c.hour_facts-facts.ensures c.down_amount-down.ensures
     (sym c.peak_hour.ensures ∙ c.if-peak_hour.true) c.on_peak-on_peak.ensures
 
 pub off_peak-requires-clause-in_range : goal.off_peak-requires-clause-in_range
 unfolding hour_facts
 off_peak-requires-clause-in_range c =
-    let k = c.requires.at_hour in (
+    let k = c.args.self.stands in (
       rw c.hour_facts-facts.ensures (upward_small _ _ (hour_there k)),
-      rw c.requires.price_is_needed (needed_small c.args.body.now k.sound c.args.h k.below c.args.terms),
+      rw c.requires (needed_small c.args.self.body.now k.sound c.args.self.h k.below c.args.self.terms),
     )
 
 pub returns : goal.returns
 returns c =
-    let r = c.requires in
-    outside_peak r.at_hour (sym c.word-flag.ensures ∙ c.if-flag-ne1.false) r.price_is_needed c.hour_facts-facts.ensures c.down_amount-down.ensures
+    outside_peak c.args.self.stands (sym c.word-flag.ensures ∙ c.if-flag-ne1.false) c.requires c.hour_facts-facts.ensures c.down_amount-down.ensures
     (sym c.peak_hour.ensures ∙ c.if-peak_hour.false) c.off_peak.ensures

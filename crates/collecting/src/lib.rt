@@ -8,7 +8,7 @@ ghost use Rattle.surcharge.specs.Ranges.{TermsKept};
 ghost use Rattle.amounts.specs.Ranges.{AmountsRanged};
 ghost use Rattle.collecting.specs.Directions.{amount_in, basis_in, day_of};
 
-use amounts::Amounts;
+use amounts::{Amounts, DayHour};
 use surcharge::Terms;
 
 // The upward amount of an hour: on-peak plus off-peak.
@@ -30,8 +30,14 @@ pub fn collect(terms: Terms, body: &[u8], collected: &mut [i64])
     let count = words::word(body, 6) as usize;
     let mut at = body::first_hour(load, count);
     for h in 0..limits::DAY_HOURS {
-        let price = amounts::needed_price(terms, day, body, h, at);
-        let amounts = amounts::hour_amounts(terms, day, price, body, h, at);
+        let hour = DayHour {
+            terms,
+            day,
+            body,
+            h,
+            at,
+        };
+        let amounts = hour.amounts(hour.needed_price());
         collected[2 * h] = upward_amount(amounts);
         collected[2 * h + 1] = amounts.down.0;
         at = body::next_hour(load, count, h, at);

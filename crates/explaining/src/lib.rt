@@ -9,6 +9,7 @@ ghost use Rattle.amounts.specs.Amounts.{downward_from, amount_at, price_answer_a
 ghost use Rattle.amounts.specs.Ranges.{AtHour};
 ghost use Rattle.explaining.specs.Explaining.{multiplier_of, shortage_at, priced_of};
 
+use amounts::DayHour;
 use price::{PriceRefusal, Priced};
 use surcharge::{Day, Terms};
 use units::{Cents, MarketPrice, Quantity};
@@ -98,8 +99,14 @@ pub fn hour_amount(terms: Terms, day: Day, body: &[u8], h: usize, at: usize) -> 
     requires { AtHour terms day body.now h at }
     ensures { result.0 ≡ amount_at terms body.now h }
 {
-    let price = amounts::needed_price(terms, day, body, h, at);
-    amounts::amount_of(amounts::hour_amounts(terms, day, price, body, h, at))
+    let hour = DayHour {
+        terms,
+        day,
+        body,
+        h,
+        at,
+    };
+    amounts::amount_of(hour.amounts(hour.needed_price()))
 }
 
 // T of hour h.

@@ -6,3 +6,4 @@ pub mod Places
 pub mod Room
 pub mod Stands
 pub mod Shown
+pub mod Hours

@@ -9,13 +9,13 @@ ghost use Rattle.body.specs.Plain.{plain_area};
 ghost use Rattle.dayfile.specs.Plain.{PlainTold};
 ghost use Rattle.contents.specs.File.{areas_of, peak_of};
 ghost use Rattle.surcharge.specs.Ranges.{TermsKept};
-ghost use Rattle.amounts.specs.Ranges.{AtHour};
 ghost use Rattle.statement.specs.Block.{block, area_numbers};
 ghost use Rattle.settlement.specs.SoundFile.{SoundFile, Settleable};
 ghost use Rattle.settlement.specs.Settlement.{needed_to, statement_to, terms_in, chargeable, charge_rule, hour_refusal, hours_refusal};
 ghost use Rattle.settlement.specs.Settlement.{areas_refusal, listed, accepted_rule, after_with, settle_of, after};
 
-use surcharge::{Day, Terms};
+use amounts::DayHour;
+use surcharge::Terms;
 use verdict::Refusal;
 
 // The numbers of the longest area: one of CISO with the most coordinators.
@@ -86,60 +86,45 @@ fn write_areas(peak: u32, days: &[u32], file: &[u8], n: usize, statement: &mut [
     }
 }
 
-// Whether there is somebody to charge for hour h. The amounts are only asked for where there is no demand.
-fn chargeable_hour(terms: Terms, day: Day, body: &[u8], h: usize, at: usize) -> bool
-    requires { AtHour terms day body.now h at }
-    ensures { result ≡ chargeable terms body.now h }
+// Whether there is somebody to charge for the hour. The amounts are only asked for where there is no demand.
+fn chargeable_hour(hour: DayHour) -> bool
+    ensures { result ≡ chargeable hour.entry.terms hour.entry.body.now hour.entry.h }
 {
+    let body = hour.body;
     if words::word(body, 0) != 1 {
         return true;
     }
     let load = words::word(body, 5) as usize;
     let count = words::word(body, 6) as usize;
-    let demand = shares::sum_of_words(body, at + 8 + 24 * load, count);
+    let demand = shares::sum_of_words(body, hour.at + 8 + 24 * load, count);
     if 0 < demand {
         return true;
     }
-    let price = amounts::needed_price(terms, day, body, h, at);
-    let amount = amounts::amount_of(amounts::hour_amounts(terms, day, price, body, h, at));
+    let amount = amounts::amount_of(hour.amounts(hour.needed_price()));
     shares::shareable(amount.0, demand)
 }
 
-// What charging hour h refuses, in the body that starts at word `start` of the file.
-fn check_charge(
-    terms: Terms,
-    day: Day,
-    start: usize,
-    body: &[u8],
-    h: usize,
-    at: usize,
-) -> Result<(), Refusal>
-    requires { (AtHour terms day body.now h at) × (start < 4294967296) }
-    ensures { result ≡ charge_rule terms start body.now h }
+// What charging the hour refuses, in the body that starts at word `start` of the file.
+fn check_charge(hour: DayHour, start: usize) -> Result<(), Refusal>
+    requires { start < 4294967296 }
+    ensures { result ≡ charge_rule hour.entry.terms start hour.entry.body.now hour.entry.h }
 {
-    if chargeable_hour(terms, day, body, h, at) {
+    if chargeable_hour(hour) {
         return Ok(());
     }
-    let load = words::word(body, 5) as usize;
+    let load = words::word(hour.body, 5) as usize;
     Err(Refusal::AmountWithoutDemand {
-        place: start + (at + 8 + 24 * load),
+        place: start + (hour.at + 8 + 24 * load),
     })
 }
 
-// The first refusal of hour h, in the body that starts at word `start` of the file.
-fn check_hour(
-    terms: Terms,
-    day: Day,
-    start: usize,
-    body: &[u8],
-    h: usize,
-    at: usize,
-) -> Result<(), Refusal>
-    requires { (AtHour terms day body.now h at) × (start < 4294967296) }
-    ensures { result ≡ hour_refusal terms start body.now h }
+// The first refusal of the hour, in the body that starts at word `start` of the file.
+fn check_hour(hour: DayHour, start: usize) -> Result<(), Refusal>
+    requires { start < 4294967296 }
+    ensures { result ≡ hour_refusal hour.entry.terms start hour.entry.body.now hour.entry.h }
 {
-    amounts::check_price(terms, day, start, body, h, at)?;
-    check_charge(terms, day, start, body, h, at)
+    hour.check_price(start)?;
+    check_charge(hour, start)
 }
 
 // The first refusal among the hours of an area, one by one.
@@ -152,7 +137,14 @@ fn check_hours(terms: Terms, start: usize, body: &[u8]) -> Result<(), Refusal>
     let count = words::word(body, 6) as usize;
     let mut at = body::first_hour(load, count);
     for h in 0..limits::DAY_HOURS {
-        check_hour(terms, day, start, body, h, at)?;
+        let hour = DayHour {
+            terms,
+            day,
+            body,
+            h,
+            at,
+        };
+        check_hour(hour, start)?;
         at = body::next_hour(load, count, h, at);
     }
     Ok(())

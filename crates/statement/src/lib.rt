@@ -9,12 +9,12 @@ ghost use Rattle.encoding.specs.Encoding.{encoded};
 ghost use Rattle.body.specs.Layout.{kind_of, points_of, coordinators_of};
 ghost use Rattle.body.specs.Kept.{Sound};
 ghost use Rattle.surcharge.specs.Ranges.{TermsKept};
-ghost use Rattle.amounts.specs.Ranges.{AtHour, AmountsRanged};
+ghost use Rattle.amounts.specs.Ranges.{AmountsRanged};
 ghost use Rattle.statement.specs.Ranges.{DemandsRanged};
 ghost use Rattle.statement.specs.Block.{charges_from, shown_of, hour_block, block, amounts_shown, hour_numbers, area_numbers};
 
-use amounts::Amounts;
-use surcharge::{Day, Terms};
+use amounts::{Amounts, DayHour};
+use surcharge::Terms;
 
 // How many numbers an hour has before its charges.
 pub const AMOUNTS_SHOWN: usize = 5;
@@ -78,18 +78,21 @@ fn hour_charges(amount: i64, body: &[u8], at: usize, charges: &mut [u8])
     write_charges(kind, amount, body, at + 8 + 24 * load, count, charges);
 }
 
-// Hour h, which starts at word `at`, at the front of a block. `day` has the facts of the area's day.
-fn write_hour(terms: Terms, day: Day, body: &[u8], h: usize, at: usize, block: &mut [u8])
-    requires at_hour { AtHour terms day body.now h at }
-    requires hour_fits { 8 * hour_numbers (coordinators_of body.now) ≤ length block.old }
-    ensures { block.new ≡ encoded (hour_block terms body.now h)
-        ++ drop (8 * hour_numbers (coordinators_of body.now)) block.old }
+// An hour at the front of a block.
+fn write_hour(hour: DayHour, block: &mut [u8])
+    requires { 8 * hour_numbers (coordinators_of hour.body.now) ≤ length block.old }
+    ensures { block.new ≡ encoded (hour_block hour.entry.terms hour.entry.body.now hour.entry.h)
+        ++ drop (8 * hour_numbers (coordinators_of hour.entry.body.now)) block.old }
 {
-    let price = amounts::needed_price(terms, day, body, h, at);
-    let amounts = amounts::hour_amounts(terms, day, price, body, h, at);
+    let amounts = hour.amounts(hour.needed_price());
     put_amounts(amounts, block);
     let amount = amounts::amount_of(amounts);
-    hour_charges(amount.0, body, at, &mut block[8 * AMOUNTS_SHOWN..]);
+    hour_charges(
+        amount.0,
+        hour.body,
+        hour.at,
+        &mut block[8 * AMOUNTS_SHOWN..],
+    );
 }
 
 // The 24 hours of an area at the front of its part of the statement, each hour lent its own part of that.
@@ -105,7 +108,14 @@ pub fn write_area(terms: Terms, body: &[u8], statement: &mut [u8])
     let mut at = body::first_hour(load, count);
     let mut to: usize = 0;
     for h in 0..limits::DAY_HOURS {
-        write_hour(terms, day, body, h, at, &mut statement[to..]);
+        let hour = DayHour {
+            terms,
+            day,
+            body,
+            h,
+            at,
+        };
+        write_hour(hour, &mut statement[to..]);
         at = body::next_hour(load, count, h, at);
         to += 8 * hour_numbers(count);
     }

@@ -11,7 +11,7 @@ use Rattle.collecting.proofs.collect.Goals as goal
 
 pub upward_amount-requires : goal.upward_amount-requires
 upward_amount-requires c =
-    let r = c.requires in amounts_ranged c.args.terms c.args.body.now c.loop-h.h _ c.hour_amounts-amounts.ensures r.1.0 (omega arith) r.0
+    let r = c.requires in amounts_ranged c.args.terms c.args.body.now c.loop-h.h _ c.amounts-amounts.ensures r.1.0 (omega arith) r.0
 
 pub next_hour-at-requires : goal.next_hour-at-requires
 next_hour-at-requires c =
@@ -24,7 +24,7 @@ loop-h-preserved c =
     let b = c.args.body.now in
     let l = c.loop-h in
     let r = c.requires in
-    let is = c.hour_amounts-amounts.ensures in
+    let is = c.amounts-amounts.ensures in
     let ranged = amounts_ranged t b l.h _ is r.1.0 (omega arith) r.0 in
     let filling = l.invariant.filling in
     record {

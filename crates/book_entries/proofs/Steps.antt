@@ -31,15 +31,18 @@ module _ (room : List ℕ) (n k date start size : ℕ) (h : k ≤ n) (long : 8 +
   pub words_stand : (i : ℕ) → i < 2 + 3 * k → word_at two i ≡ word_at room i
   words_stand i q = words_before room two (8 + 12 * k) behind (rw behind_long (omega arith)) behind_entered i (omega arith)
 
-  pub all_entered : (three fourth five : List ℕ) → three ≡ written two 8 (later two 3 0 (k - 0)) → fourth ≡ written three 4 (word_bytes (n + 1))
+  pub all_entered : (three fourth five : List ℕ) → three ≡ written two 8 (later two 3 0 (k - 0))
+      → fourth ≡ written three 4 (word_bytes (n + 1))
       → five ≡ written fourth 0 (word_bytes 1) → five ≡ written room 0 (entered room n k date start size)
   all_entered three fourth five g i j =
       let same : later two 3 0 k ≡ later room 3 0 k = later_same two room 3 0 k (λ i q. words_stand i (omega arith)) in
       let front = later_length room 3 0 k in
       let third = then_before room two three (later room 3 0 k) behind 8 (8 + 12 * k) (omega arith) (rw behind_long (omega arith)) behind_entered
       (rw (sub-zero k, same) at g) in
-      let last = then_before room three fourth (word_bytes (n + 1)) _ 4 8 (rw word_long refl) (rw (length-append, behind_long) (omega arith)) third i in
-      then_before room fourth five (word_bytes 1) _ 0 4 (rw word_long refl) (rw (length-append, word_long (n + 1), length-append, behind_long) (omega arith))
+      let last = then_before room three fourth (word_bytes (n + 1)) _ 4 8 (rw word_long refl)
+      (rw (length-append, behind_long) (omega arith)) third i in
+      then_before room fourth five (word_bytes 1) _ 0 4 (rw word_long refl)
+      (rw (length-append, word_long (n + 1), length-append, behind_long) (omega arith))
       last j
 
 module _ (room : List ℕ) (n k size : ℕ) (h : k < n) (long : 8 + 12 * n ≤ length room)

@@ -46,8 +46,10 @@ all_back : (numbers : List ℤ) → AllFit numbers → map number_of (first_chun
 unfolding encoded
 all_back [] fit = refl
 all_back (z ∷ numbers) fit =
-    let bits = bits_of z in
-    rw (take_at (bytes_of bits) (encoded numbers) 8 (eight_bytes bits), drop_at (bytes_of bits) (encoded numbers) 8 (eight_bytes bits)) (ap₂ ◌∷◌ (number_back z (fit.each 0 (omega arith))) (all_back numbers (fit_rest z numbers fit)))
+    let eight = bytes_of (bits_of z) in
+    let long = eight_bytes (bits_of z) in
+    rw (take_at eight (encoded numbers) 8 long, drop_at eight (encoded numbers) 8 long)
+    (ap₂ ◌∷◌ (number_back z (fit.each 0 (omega arith))) (all_back numbers (fit_rest z numbers fit)))
 
 pub taken : (bytes : List ℕ) (before : List ℤ)
     → NumbersIn bytes before (map number_of (first_chunks 8 (length bytes / 8) bytes) ++ drop (length bytes / 8) before)

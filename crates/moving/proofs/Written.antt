@@ -53,40 +53,6 @@ part_behind room at bytes from n h k = rw (written_behind room at bytes h from k
 pub part_add : (room : List ℕ) (from n m : ℕ) → part room from (n + m) ≡ part room from n ++ part room (from + n) m
 part_add room from n m = rw (take-add n m (drop from room), drop-drop n from room)
 
--- the next n bytes towards the front
-pub chunk_down : (room now next : List ℕ) (from to i n : ℕ) → to ≤ from → from + (i + n) ≤ length room → now ≡ written room to (part room from i)
-    → next ≡ written now (to + i) (part now (from + i) n) → next ≡ written room to (part room from (i + n))
-chunk_down room now next from to i n h k stands came =
-    let l : length (part room from i) ≡ i = part_length room from i (omega arith) in
-    let m : length (part room (from + i) n) ≡ n = part_length room (from + i) n (omega arith) in
-    let read : part now (from + i) n ≡ part room (from + i) n =
-    rw stands (part_behind room to (part room from i) (from + i) n (rw l (omega arith)) (rw l (omega arith))) in
-    let on : written (written room to (part room from i)) (to + length (part room from i)) (part room (from + i) n) ≡ written room to
-    (part room from i ++ part room (from + i) n) =
-    written_on room to (part room from i) (part room (from + i) n) (rw (l, m) (omega arith)) in
-    came ∙ rw (read, stands, part_add room from i n) (rw l at on)
-
--- the first n bytes towards the back, the m behind them being there
-pub chunk_last : (room now next : List ℕ) (from to n m : ℕ) → from ≤ to → to + (n + m) ≤ length room
-    → now ≡ written room (to + n) (part room (from + n) m) → next ≡ written now to (part now from n) → next ≡ written room to (part room from (n + m))
-chunk_last room now next from to n m h k stands came =
-    let l : length (part room from n) ≡ n = part_length room from n (omega arith) in
-    let r : length (part room (from + n) m) ≡ m = part_length room (from + n) m (omega arith) in
-    let read : part now from n ≡ part room from n = rw stands (part_before room (to + n) (part room (from + n) m) from n (rw r (omega arith)) (omega arith)) in
-    let back : written (written room (to + length (part room from n)) (part room (from + n) m)) to (part room from n) ≡ written room to
-    (part room from n ++ part room (from + n) m) =
-    written_back room to (part room from n) (part room (from + n) m) (rw (l, r) (omega arith)) in
-    came ∙ rw (read, stands, part_add room from n m) (rw l at back)
-
--- the n bytes before `left + n` towards the back
-pub chunk_up : (room now next : List ℕ) (from to left n m : ℕ) → from ≤ to → to + (left + n + m) ≤ length room
-    → now ≡ written room (to + (left + n)) (part room (from + (left + n)) m)
-    → next ≡ written now (to + left) (part now (from + left) n) → next ≡ written room (to + left) (part room (from + left) (n + m))
-chunk_up room now next from to left n m h k stands came =
-    let e : to + (left + n) ≡ to + left + n = omega arith in
-    let f : from + (left + n) ≡ from + left + n = omega arith in
-    chunk_last room now next (from + left) (to + left) n m (omega arith) (omega arith) (rw (e, f) at stands) came
-
 -- what was written so far stands at b; the next bytes come right before it, or right behind it
 pub then_before : (old now next bytes done : List ℕ) (at b : ℕ) → at + length bytes ≡ b → b + length done ≤ length old → now ≡ written old b done
     → next ≡ written now at bytes → next ≡ written old at (bytes ++ done)
@@ -97,3 +63,38 @@ pub then_behind : (old now next bytes done : List ℕ) (at b : ℕ) → at + len
     → next ≡ written now b bytes → next ≡ written old at (done ++ bytes)
 then_behind old now next bytes done at b e h stands came =
     came ∙ rw (stands, ← e) (written_on old at done bytes (rw e h))
+
+-- the next n bytes towards the front
+pub chunk_down : (room now next : List ℕ) (from to i n : ℕ) → to ≤ from → from + (i + n) ≤ length room
+    → now ≡ written room to (part room from i) → next ≡ written now (to + i) (part now (from + i) n)
+    → next ≡ written room to (part room from (i + n))
+chunk_down room now next from to i n h k stands came =
+    let done = part room from i in
+    let l : length done ≡ i = part_length room from i (omega arith) in
+    let m = part_length room (from + i) n (omega arith) in
+    let read : part now (from + i) n ≡ part room (from + i) n =
+    rw stands (part_behind room to done (from + i) n (rw l (omega arith)) (rw l (omega arith))) in
+    rw (part_add room from i n)
+    (then_behind room now next (part room (from + i) n) done to (to + i) (rw l) (omega (arith, m)) stands (rw read at came))
+
+-- the first n bytes towards the back, the m behind them being there
+pub chunk_last : (room now next : List ℕ) (from to n m : ℕ) → from ≤ to → to + (n + m) ≤ length room
+    → now ≡ written room (to + n) (part room (from + n) m) → next ≡ written now to (part now from n)
+    → next ≡ written room to (part room from (n + m))
+chunk_last room now next from to n m h k stands came =
+    let done = part room (from + n) m in
+    let l = part_length room from n (omega arith) in
+    let r : length done ≡ m = part_length room (from + n) m (omega arith) in
+    let read : part now from n ≡ part room from n =
+    rw stands (part_before room (to + n) done from n (rw r (omega arith)) (omega arith)) in
+    rw (part_add room from n m)
+    (then_before room now next (part room from n) done to (to + n) (rw l) (rw r (omega arith)) stands (rw read at came))
+
+-- the n bytes before `left + n` towards the back
+pub chunk_up : (room now next : List ℕ) (from to left n m : ℕ) → from ≤ to → to + (left + n + m) ≤ length room
+    → now ≡ written room (to + (left + n)) (part room (from + (left + n)) m)
+    → next ≡ written now (to + left) (part now (from + left) n) → next ≡ written room (to + left) (part room (from + left) (n + m))
+chunk_up room now next from to left n m h k stands came =
+    let e : to + (left + n) ≡ to + left + n = omega arith in
+    let f : from + (left + n) ≡ from + left + n = omega arith in
+    chunk_last room now next (from + left) (to + left) n m (omega arith) (omega arith) (rw (e, f) at stands) came

@@ -25,7 +25,8 @@ first_word w ys h = omega arith
 -- a word that stands behind the first i words
 pub word_there : (bytes front : List ℕ) (w : ℕ) (rest : List ℕ) (i : ℕ) → bytes ≡ front ++ (word_bytes w ++ rest) → length front ≡ 4 * i → w < 4294967296
     → word_at bytes i ≡ w
-word_there bytes front w rest i stands at h = grind (arith, stands, word_behind front (word_bytes w ++ rest) i 0 at, first_word w rest h)
+word_there bytes front w rest i stands at h =
+    grind (arith, stands, word_behind front (word_bytes w ++ rest) i 0 at, first_word w rest h)
 
 -- the words that were written out stand there
 pub word_written : (words rest : List ℕ) (i : ℕ) → Below 4294967296 words → i < length words → word_at (words_bytes words ++ rest) i ≡ get_or words i 0

@@ -13,4 +13,5 @@ pub returns : goal.returns
 returns c =
     let a = c.args in
     all_entered a.room.now a.n a.k a.date a.start a.size c.requires.0 c.requires.1.1.0 c.entries_up.new.room c.put_entry.new.room
-    c.entries_up.ensures c.put_entry.ensures c.entries_up-2.new.room c.put_word.new.room _ c.entries_up-2.ensures c.put_word.ensures c.put_word-2.ensures
+    c.entries_up.ensures c.put_entry.ensures c.entries_up-2.new.room c.put_word.new.room _
+    c.entries_up-2.ensures c.put_word.ensures c.put_word-2.ensures

@@ -15,7 +15,8 @@ pub overflow_sub-start : goal.overflow_sub-start
 overflow_sub-start c =
     let s = c.args in
     let l = c.loop-k in
-    let stays = earlier_keeps s.room.now l.room s.less s.low l.k s.down (omega arith) (omega arith) l.invariant (2 + 3 * (l.k + s.down) + 1) (omega arith) in
+    let stays = earlier_keeps s.room.now l.room s.less s.low l.k s.down (omega arith) (omega arith) l.invariant
+    (2 + 3 * (l.k + s.down) + 1) (omega arith) in
     omega (arith, c.word-start.ensures, stays, c.requires.1.1 (l.k + s.down) (omega arith) (omega arith))
 
 pub loop-k-preserved : goal.loop-k-preserved

@@ -15,7 +15,8 @@ pub overflow_add-start : goal.overflow_add-start
 overflow_add-start c =
     let s = c.args in
     let l = c.loop-k in
-    let stays = later_keeps s.room.now l.room s.more l.k s.up s.high (omega arith) (omega arith) l.invariant.1 (2 + 3 * (l.k - 1) + 1) (omega arith) in
+    let stays = later_keeps s.room.now l.room s.more l.k s.up s.high (omega arith) (omega arith) l.invariant.1
+    (2 + 3 * (l.k - 1) + 1) (omega arith) in
     omega (arith, c.word-start.ensures, stays, c.requires.1.1 (l.k - 1) (omega arith))
 
 pub loop-k-preserved : goal.loop-k-preserved

@@ -10,7 +10,8 @@ loop-k-preserved c =
     let s = c.args in
     let k = c.loop-k.k in
     let e : 4096 * (k + 1) ≡ 4096 * k + 4096 = omega arith in
-    rw e (chunk_down s.room.now c.loop-k.room _ s.from s.to (4096 * k) 4096 (omega arith) (omega arith) c.loop-k.invariant c.move_through.ensures)
+    rw e (chunk_down s.room.now c.loop-k.room _ s.from s.to (4096 * k) 4096 (omega arith) (omega arith)
+    c.loop-k.invariant c.move_through.ensures)
 
 pub returns : goal.returns
 returns c =
@@ -18,4 +19,5 @@ returns c =
     let i = 4096 * (s.count / 4096) in
     let e : i + (s.count - i) ≡ s.count = omega arith in
     let l : c.loop-k.k ≡ s.count / 4096 = omega arith in
-    rw e at (chunk_down s.room.now c.loop-k.room _ s.from s.to i (s.count - i) (omega arith) (omega arith) (rw l at c.loop-k.invariant) c.move_through-2.ensures)
+    rw e at (chunk_down s.room.now c.loop-k.room _ s.from s.to i (s.count - i) (omega arith) (omega arith)
+    (rw l at c.loop-k.invariant) c.move_through-2.ensures)

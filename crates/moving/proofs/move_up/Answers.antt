@@ -15,7 +15,8 @@ loop-k-preserved c =
     let left = s.count % 4096 + 4096 * (l.k - 1) in
     let e : s.count % 4096 + 4096 * l.k ≡ left + 4096 = omega arith in
     let f : 4096 + (s.count - (left + 4096)) ≡ s.count - left = omega arith in
-    rw f at (chunk_up s.room.now l.room _ s.from s.to left 4096 (s.count - (left + 4096)) (omega arith) (omega arith) (rw e at l.invariant) c.move_through.ensures)
+    rw f at (chunk_up s.room.now l.room _ s.from s.to left 4096 (s.count - (left + 4096)) (omega arith) (omega arith)
+    (rw e at l.invariant) c.move_through.ensures)
 
 pub returns : goal.returns
 returns c =
@@ -24,4 +25,5 @@ returns c =
     let rest = s.count % 4096 in
     let e : rest + 4096 * l.k ≡ rest = omega arith in
     let f : rest + (s.count - rest) ≡ s.count = omega arith in
-    rw f at (chunk_last s.room.now l.room _ s.from s.to rest (s.count - rest) (omega arith) (omega arith) (rw e at l.invariant) c.move_through-2.ensures)
+    rw f at (chunk_last s.room.now l.room _ s.from s.to rest (s.count - rest) (omega arith) (omega arith)
+    (rw e at l.invariant) c.move_through-2.ensures)

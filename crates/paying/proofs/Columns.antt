@@ -7,7 +7,7 @@ use native.Mathlib.Decide.{ℕ_discrete}
 use native.Mathlib.Nat.{add-zero, zero-add}
 use native.Mathlib.Numerals.{add-one}
 use native.Mathlib.Omega.{arith}
-use lib.IntN.{ℤ, pos}
+use lib.IntN.{ℤ, pos, ◌+ℤ◌, +ℤ_assoc}
 use lib.ListN.{length, get_or, set, length-set, length-append}
 use lib.Seq.{get_or-set_same, get_or-set_other}
 use Rattle.limits.specs.Ranges.{day_payments}
@@ -46,6 +46,13 @@ module _ {A : Type 0} (number : ℕ → A) where
 
   pub each_there : (n i : ℕ) (none : A) → i < n → get_or (each number 0 n) i none ≡ number i
   each_there n i none below = each_at 0 n i none below ∙ ap number (zero-add i)
+
+-- a number more of those that are added
+pub next_sum : (numbers : ℕ → ℤ) (k n : ℕ) (before : ℤ) {whole : ℤ} → k < n → before +ℤ sum (each numbers k (n - k)) ≡ whole
+    → (before +ℤ numbers k) +ℤ sum (each numbers (k + 1) (n - (k + 1))) ≡ whole
+unfolding sum
+next_sum numbers k n before below e =
+    +ℤ_assoc before (numbers k) (sum (each numbers (k + 1) (n - (k + 1)))) ∙ rw (each_next numbers k n below) at e
 
 -- numbers that are the same
 pub each_same : {A : Type 0} (one other : ℕ → A) (k n : ℕ) → ((i : ℕ) → i < k + n → one i ≡ other i) → each one k n ≡ each other k n

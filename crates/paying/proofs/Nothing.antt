@@ -2,12 +2,19 @@
 use Prim.Native.Nat.{ℕ, zero, suc, ◌+◌, ◌*◌, ◌≤◌, ◌<◌}
 use mathlib.Core.List.{List}
 use mathlib.Core.Path.{◌≡◌, refl, sym, ap, ap₂, ◌∙◌}
-use native.Mathlib.Nat.{zero-add}
+use native.Mathlib.Nat.{zero-add, add-zero}
 use native.Mathlib.Numerals.{add-one}
 use native.Mathlib.Omega.{arith}
 use lib.IntN.{ℤ, pos, ◌+ℤ◌}
-use lib.ListN.{length, get_or, set, length-set}
-use lib.Seq.{set-get_or}
+use lib.ListN.{length, get_or, take, drop, set, length-set, length-append, length-take, length-replicate, take-append-drop, replicate-append-replicate}
+use mathlib.Core.List.{◌∷◌, ◌++◌, append_assoc}
+use Rattle.exact.proofs.Filling.{drop_next}
+use lib.Seq.{set-get_or, set-append_seam}
+use lib.Bits.{bit_or, or_add_and, and_le_l, and_le_r}
+use mir.Syntax.{w64}
+use mir.Val.{Fits, SFits, of_z, to_z}
+use Rattle.std.proofs.Math.Facts.{of_z-to_z}
+use Rattle.exact.proofs.Machine.{zero_bits}
 use Rattle.limits.specs.Ranges.{day_payments}
 use Rattle.shares.specs.Shares.{sum}
 use Rattle.paying.specs.Columns.{each, column, put_column, column_paid, paid_to, Zeros, rests_cleared}
@@ -18,6 +25,43 @@ pub cleared_length : (n : ℕ) (table : List ℤ) (j : ℕ) → length (rests_cl
 unfolding rests_cleared
 cleared_length n table zero = refl
 cleared_length n table (suc j) = length-set (rests_cleared n j table) (day_payments * n + j) (pos 0) ∙ cleared_length n table j
+
+-- the rests of the first m columns filled with zeros
+pub cleared_is : (n : ℕ) (table : List ℤ) (m : ℕ) → day_payments * n + m ≤ length table
+    → take (day_payments * n) table ++ (room m ++ drop (day_payments * n + m) table) ≡ rests_cleared n m table
+unfolding rests_cleared
+cleared_is n table zero h = rw add-zero (take-append-drop (day_payments * n) table)
+cleared_is n table (suc m) h =
+    let at = day_payments * n in
+    let front = take at table ++ room m in
+    let long : length front ≡ at + m = omega (arith, length-append (take at table) (room m), length-take at table, length-replicate m (pos 0)) in
+    let next : drop (at + m) table ≡ get_or table (at + m) (pos 0) ∷ drop (at + suc m) table =
+    drop_next table (at + m) (pos 0) (omega arith) ∙ ap (λ k. get_or table (at + m) (pos 0) ∷ drop k table) (omega arith) in
+    let rest = drop (at + suc m) table in
+    let more : room m ++ (pos 0 ∷ rest) ≡ room (suc m) ++ rest =
+    sym (append_assoc (room m) (room 1) rest) ∙ ap (λ (l : List ℤ). l ++ rest) (replicate-append-replicate m 1 (pos 0) ∙ ap room (add-one m)) in
+    let front-is : rests_cleared n m table ≡ front ++ (get_or table (at + m) (pos 0) ∷ rest) =
+    sym (cleared_is n table m (omega arith)) ∙ ap (λ (l : List ℤ). take at table ++ (room m ++ l)) next ∙ sym (append_assoc (take at table) (room m) _) in
+    sym
+    (ap (λ (l : List ℤ). set l (at + m) (pos 0)) front-is
+    ∙ ap (λ (k : ℕ). set (front ++ (get_or table (at + m) (pos 0) ∷ rest)) k (pos 0)) (sym long)
+    ∙ set-append_seam front (get_or table (at + m) (pos 0)) rest (pos 0)
+    ∙ append_assoc (take at table) (room m) (pos 0 ∷ rest)
+    ∙ ap (λ (l : List ℤ). take at table ++ l) more)
+
+-- a number joined bit by bit
+module _ (joined : ℕ) (z : ℤ) (fits : SFits w64 z) where
+  pub joined_zero : Fits w64 (bit_or joined (of_z w64 z)) → to_z w64 (bit_or joined (of_z w64 z)) ≡ pos 0 → (to_z w64 joined ≡ pos 0) × (z ≡ pos 0)
+  joined_zero whole e =
+      let bits : bit_or joined (of_z w64 z) ≡ 0 = sym (of_z-to_z whole) ∙ ap (of_z w64) e in
+      let sum = or_add_and joined (of_z w64 z) in
+      let none : joined ≡ 0 = omega (arith, and_le_r joined (of_z w64 z)) in
+      (ap (to_z w64) none, zero_bits fits (omega (arith, and_le_l joined (of_z w64 z))))
+
+  pub zero_joined : Fits w64 joined → to_z w64 joined ≡ pos 0 → z ≡ pos 0 → to_z w64 (bit_or joined (of_z w64 z)) ≡ pos 0
+  zero_joined own e none =
+      let bits : joined ≡ 0 = sym (of_z-to_z own) ∙ ap (of_z w64) e in
+      rw (bits, none)
 
 -- zeros add up to 0
 pub sum_nothing : (number : ℕ → ℤ) (k n : ℕ) → ((i : ℕ) → i < k + n → number i ≡ pos 0) → sum (each number k n) ≡ pos 0

@@ -22,7 +22,7 @@ use Rattle.paying.specs.Paid.{rest_of, paid_of}
 abbrev pub room : ℕ → List ℤ
 room m = replicate m (pos 0)
 
-room_front : (n m : ℕ) → n ≤ m → take n (room m) ≡ room n
+pub room_front : (n m : ℕ) → n ≤ m → take n (room m) ≡ room n
 room_front zero m h = refl
 room_front (suc n) zero h = absurd (omega arith)
 room_front (suc n) (suc m) h = ap (λ (l : List ℤ). pos 0 ∷ l) (room_front n m (omega arith))

@@ -2,7 +2,7 @@
 // At first the rows hold what was collected from each area, and then what each is paid.
 #![tactic(auto)]
 
-ghost use Rattle.std.specs.Prelude.{true, ◌≡◌, ℕ, ◌+◌, ◌*◌, ◌≤◌, ◌<◌, ◌^◌, pos, nat_abs, length, take, replicate};
+ghost use Rattle.std.specs.Prelude.{true, ◌≡◌, ℕ, ◌+◌, ◌*◌, ◌≤◌, ◌<◌, ◌^◌, pos, nat_abs, length, take};
 ghost use Rattle.exact.specs.Total.{total};
 ghost use Rattle.limits.specs.Ranges.{day_payments, most_demand};
 ghost use Rattle.limits.specs.Editions.{most_areas};
@@ -16,11 +16,9 @@ fn collected(payments: &[i64], n: usize, j: usize) -> i64
     requires { ColumnKept payments.now n j }
     ensures { result ≡ sum (column (pos 0) payments.now n j) }
 {
-    let mut sum: i64 = 0;
-    let mut k: usize = 0;
-    while k < n {
+    let mut sum = 0;
+    for k in 0..n {
         sum += payments[limits::DAY_PAYMENTS * k + j];
-        k += 1;
     }
     sum
 }
@@ -31,10 +29,8 @@ fn basis_column(bases: &[u32], n: usize, j: usize) -> [u32; limits::MOST_AREAS]
     ensures { take n result ≡ column 0 bases.now n j }
 {
     let mut basis = [0u32; limits::MOST_AREAS];
-    let mut k: usize = 0;
-    while k < n {
+    for k in 0..n {
         basis[k] = bases[limits::DAY_PAYMENTS * k + j];
-        k += 1;
     }
     basis
 }
@@ -58,22 +54,8 @@ fn put_column(numbers: &[i64], j: usize, payments: &mut [i64])
     requires { (j < day_payments) × (day_payments * length numbers.now ≤ length payments.old) }
     ensures { payments.new ≡ put_column j numbers.now payments.old }
 {
-    let mut k: usize = 0;
-    while k < numbers.len() {
-        payments[limits::DAY_PAYMENTS * k + j] = numbers[k];
-        k += 1;
-    }
-}
-
-// Puts 0 into column j of so many rows.
-fn clear_column(rows: usize, j: usize, payments: &mut [i64])
-    requires { (j < day_payments) × (day_payments * rows ≤ length payments.old) }
-    ensures { payments.new ≡ put_column j (replicate rows (pos 0)) payments.old }
-{
-    let mut k: usize = 0;
-    while k < rows {
-        payments[limits::DAY_PAYMENTS * k + j] = 0;
-        k += 1;
+    for (k, number) in numbers.iter().enumerate() {
+        payments[limits::DAY_PAYMENTS * k + j] = *number;
     }
 }
 
@@ -83,14 +65,12 @@ fn pay_column(bases: &[u32], n: usize, j: usize, payments: &mut [i64])
     ensures { payments.new ≡ put_column j (column_paid bases.now n j payments.old) payments.old }
 {
     let amount = collected(payments, n, j);
-    let rows = n + 1;
-    if amount == 0 {
-        clear_column(rows, j, payments);
-        return;
-    }
-    let basis = basis_column(bases, n, j);
-    let numbers = paid(amount, &basis[..n]);
-    put_column(&numbers[..rows], j, payments);
+    let numbers = if amount == 0 {
+        [0i64; limits::MOST_AREAS + 1]
+    } else {
+        paid(amount, &basis_column(bases, n, j)[..n])
+    };
+    put_column(&numbers[..n + 1], j, payments);
 }
 
 // Pays every column out.
@@ -98,10 +78,8 @@ pub fn pay_columns(bases: &[u32], n: usize, payments: &mut [i64])
     requires { (j : ℕ) → j < day_payments → TableKept bases.now n j payments.old }
     ensures { payments.new ≡ paid_to bases.now n day_payments payments.old }
 {
-    let mut j: usize = 0;
-    while j < limits::DAY_PAYMENTS {
+    for j in 0..limits::DAY_PAYMENTS {
         pay_column(bases, n, j, payments);
-        j += 1;
     }
 }
 
@@ -112,11 +90,9 @@ pub fn nothing_collected(payments: &[i64], n: usize) -> bool
     ensures if_zeros { Zeros (day_payments * n) payments.now → result ≡ true }
 {
     let end = limits::DAY_PAYMENTS * n;
-    let mut joined: i64 = 0;
-    let mut i: usize = 0;
-    while i < end {
-        joined = joined | payments[i];
-        i += 1;
+    let mut joined = 0;
+    for payment in &payments[..end] {
+        joined |= *payment;
     }
     joined == 0
 }
@@ -126,9 +102,6 @@ pub fn clear_rests(n: usize, payments: &mut [i64])
     requires { day_payments * (n + 1) ≤ length payments.old }
     ensures { payments.new ≡ rests_cleared n day_payments payments.old }
 {
-    let mut j: usize = 0;
-    while j < limits::DAY_PAYMENTS {
-        payments[limits::DAY_PAYMENTS * n + j] = 0;
-        j += 1;
-    }
+    let rests = limits::DAY_PAYMENTS * n;
+    payments[rests..rests + limits::DAY_PAYMENTS].fill(0);
 }

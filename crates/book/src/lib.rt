@@ -4,7 +4,7 @@
 ghost use Rattle.std.specs.Prelude.{◌≡◌, ◌+◌, ◌*◌, ◌≤◌, ◌<◌, ◌^◌, length};
 ghost use Rattle.verdict.specs.First.{◌or_else◌, scan};
 ghost use Rattle.moving.specs.Written.{part};
-ghost use Rattle.book.specs.Read.{count_of, start_at, size_at, due_at};
+ghost use Rattle.book.specs.Read.{count_of, date_at, start_at, size_at, due_at};
 ghost use Rattle.book.specs.Check.{most_book_days, entry_rule, entry_rule_at, date_rule_at, book_rule};
 ghost use Rattle.book.specs.Sound.{Sound};
 
@@ -14,29 +14,45 @@ pub const MOST_BOOK_DAYS: usize = 31;
 
 const LEAST_DAY_WORDS: usize = 4;
 
-// An entry at word `at`, in a room of so many words.
-fn entry(
-    words: usize,
-    at: usize,
-    before: u32,
-    due: usize,
+// An entry of the contents: a day's date, and where its file starts and how long it is, in words.
+#[derive(Clone, Copy)]
+struct Entry {
     date: u32,
     start: usize,
     size: usize,
-) -> Result<(), Refusal>
-    requires { (at < 2 ^ 62) × ((words < 2 ^ 62) × ((due ≤ words) × (size < 4294967296))) }
-    ensures { result ≡ entry_rule words at before due date start size }
-{
-    if !calendar::real_date(date) || date <= before {
-        return Err(Refusal::BadBook { word: at });
+}
+
+impl Entry {
+    // Entry k of the contents.
+    fn read(book: &[u8], k: usize) -> Entry
+        requires { 8 + 12 * k + 12 ≤ length book.now }
+        ensures read { (result.date ≡ date_at book.now k) × ((result.start ≡ start_at book.now k) × (result.size ≡ size_at book.now k)) }
+        ensures words { (result.start < 4294967296) × (result.size < 4294967296) }
+    {
+        let at = 2 + 3 * k;
+        Entry {
+            date: words::word(book, at),
+            start: words::word(book, at + 1) as usize,
+            size: words::word(book, at + 2) as usize,
+        }
     }
-    if start != due {
-        return Err(Refusal::BadBook { word: at + 1 });
+
+    // The rule of an entry at word `at`, in a room of so many words.
+    fn check(self, words: usize, at: usize, before: u32, due: usize) -> Result<(), Refusal>
+        requires { (at < 2 ^ 62) × ((words < 2 ^ 62) × ((due ≤ words) × (self.size < 4294967296))) }
+        ensures { result ≡ entry_rule words at before due self.date self.start self.size }
+    {
+        if !calendar::real_date(self.date) || self.date <= before {
+            return Err(Refusal::BadBook { word: at });
+        }
+        if self.start != due {
+            return Err(Refusal::BadBook { word: at + 1 });
+        }
+        if self.size < LEAST_DAY_WORDS || words < due + self.size {
+            return Err(Refusal::BadBook { word: at + 2 });
+        }
+        Ok(())
     }
-    if size < LEAST_DAY_WORDS || words < due + size {
-        return Err(Refusal::BadBook { word: at + 2 });
-    }
-    Ok(())
 }
 
 // The contents: n entries.
@@ -45,16 +61,13 @@ fn contents(book: &[u8], n: usize) -> Result<(), Refusal>
     ensures { result ≡ scan (entry_rule_at book.now) 0 n }
 {
     let words = book.len() / 4;
-    let mut before: u32 = 0;
+    let mut before = 0;
     let mut due = 2 + 3 * n;
     for k in 0..n {
-        let at = 2 + 3 * k;
-        let date = words::word(book, at);
-        let start = words::word(book, at + 1) as usize;
-        let size = words::word(book, at + 2) as usize;
-        entry(words, at, before, due, date, start, size)?;
-        before = date;
-        due += size;
+        let entry = Entry::read(book, k);
+        entry.check(words, 2 + 3 * k, before, due)?;
+        before = entry.date;
+        due += entry.size;
     }
     Ok(())
 }
@@ -66,9 +79,9 @@ fn dates(book: &[u8], n: usize) -> Result<(), Refusal>
     ensures { result ≡ scan (date_rule_at book.now) 0 n }
 {
     for k in 0..n {
-        let date = words::word(book, 2 + 3 * k);
-        let at = words::word(book, 2 + 3 * k + 1) as usize + 1;
-        if words::word(book, at) != date {
+        let entry = Entry::read(book, k);
+        let at = entry.start + 1;
+        if words::word(book, at) != entry.date {
             return Err(Refusal::BadBook { word: at });
         }
     }
@@ -109,8 +122,8 @@ pub fn due(book: &[u8], k: usize) -> usize
     if k == 0 {
         return 2 + 3 * (words::word(book, 1) as usize);
     }
-    let at = 2 + 3 * (k - 1);
-    words::word(book, at + 1) as usize + words::word(book, at + 2) as usize
+    let before = Entry::read(book, k - 1);
+    before.start + before.size
 }
 
 // The file of day k, a part of the book.
@@ -118,8 +131,6 @@ pub fn file_at(book: &[u8], k: usize) -> &[u8]
     requires { (k < count_of book.now) × Sound book.now }
     ensures { result.now ≡ part book.now (4 * start_at book.now k) (4 * size_at book.now k) }
 {
-    let at = 2 + 3 * k;
-    let from = 4 * (words::word(book, at + 1) as usize);
-    let to = from + 4 * (words::word(book, at + 2) as usize);
-    &book[from..to]
+    let entry = Entry::read(book, k);
+    &book[4 * entry.start..4 * (entry.start + entry.size)]
 }

@@ -12,37 +12,31 @@ use verdict::Refusal;
 // The answer of a day, and how many of the numbers that were left it takes: all of them where they are too few.
 #[derive(Clone, Copy)]
 struct DayPart {
-    answer: Verdict,
+    answer: Result<(), Refusal>,
     numbers: usize,
 }
 
-// One day, at the front of what is left of the statement.
+// One day, at the front of what is left of the statement. A day that its check refuses takes no numbers.
 fn settle_day(file: &[u8], statement: &mut [i64]) -> DayPart
     ensures answer_value { result.answer ≡ settle_of file.now (length statement.old) }
     ensures numbers_value { result.numbers ≡ min (numbers_taken file.now) (length statement.old) }
     ensures statement_after { statement.new ≡ settled_day file.now statement.old }
 {
-    let told = dayfile::checked(file);
-    let v = told.answer;
-    if verdict::number(v) != 0 {
-        return DayPart {
-            answer: v,
-            numbers: 0,
-        };
-    }
+    let plain = match dayfile::checked(file) {
+        Ok(plain) => plain,
+        Err(refusal) => {
+            return DayPart {
+                answer: Err(refusal),
+                numbers: 0,
+            };
+        }
+    };
     let needed = settlement::numbers_needed(file, words::word(file, 2) as usize);
-    let plain = told.plain;
     let own = [0u32; 0];
     let answer = settlement::settle_accepted(plain, &own, file, statement);
-    if statement.len() < needed {
-        return DayPart {
-            answer,
-            numbers: statement.len(),
-        };
-    }
     DayPart {
         answer,
-        numbers: needed,
+        numbers: needed.min(statement.len()),
     }
 }
 
@@ -53,18 +47,15 @@ fn settle_days(book: &[u8], n: usize, statement: &mut [i64], table: &mut [u64])
     ensures table_after { table.new ≡ places_of (length statement.old) (days_of book.now) ++ drop n table.old }
 {
     let mut to: usize = 0;
-    let mut i: usize = 0;
-    while i < n {
+    for i in 0..n {
         let part = settle_day(book::file_at(book, i), &mut statement[to..]);
-        let answer = part.answer;
-        table[i] = verdict::code(answer);
-        let numbers = part.numbers;
-        to += numbers;
-        i += 1;
+        table[i] = verdict::code(part.answer);
+        to += part.numbers;
     }
 }
 
 // The check of the book, then whether the table has a place for each day.
+#[tactic(auto, using(verdict::proofs::First::in_order, book::proofs::Kept::sound_book, std::proofs::lemmas::Bool::Decides::nat_tests), unfolding(month_rules::specs::Month::month_rule))]
 fn admit(book: &[u8], places: usize) -> Result<(), Refusal>
     ensures { result ≡ month_rule book.now places }
 {
@@ -72,7 +63,7 @@ fn admit(book: &[u8], places: usize) -> Result<(), Refusal>
     if places < words::word(book, 1) as usize {
         return Err(Refusal::DaysDoNotFit);
     }
-    v
+    Ok(())
 }
 
 // Checks the book, then settles its days one by one into `statement`, each behind the numbers of the days before it, and puts what each answers to its place of
@@ -85,5 +76,5 @@ pub fn settle_month(book: &[u8], statement: &mut [i64], table: &mut [u64]) -> Re
     admit(book, table.len())?;
     let n = words::word(book, 1) as usize;
     settle_days(book, n, statement, table);
-    v
+    Ok(())
 }

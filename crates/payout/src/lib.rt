@@ -17,10 +17,8 @@ fn hour_basis(basis: &[u32], n: usize, h: usize) -> u64
     ensures { result ≡ total (basis_at basis.now n h) }
 {
     let mut sum: u64 = 0;
-    let mut k: usize = 0;
-    while k < n {
+    for k in 0..n {
         sum += basis[limits::DAY_HOURS * k + h] as u64;
-        k += 1;
     }
     sum
 }
@@ -33,12 +31,10 @@ fn check_basis(basis: &[u32], n: usize) -> Result<(), Refusal>
     if basis.len() != limits::DAY_HOURS * n {
         return Err(Refusal::BadBasis);
     }
-    let mut h: usize = 0;
-    while h < limits::DAY_HOURS {
+    for h in 0..limits::DAY_HOURS {
         if (limits::MOST_BASIS as u64) < hour_basis(basis, n, h) {
             return Err(Refusal::BadBasis);
         }
-        h += 1;
     }
     Ok(())
 }
@@ -54,7 +50,7 @@ fn judge(file: &[u8], basis: &[u32], room: usize) -> Result<(), Refusal>
     if room < needed {
         return Err(Refusal::PaymentRoomTooShort { needed });
     }
-    second
+    Ok(())
 }
 
 // What is collected from each area, area after area at the front of `collected`.
@@ -64,8 +60,7 @@ fn collect_areas(file: &[u8], n: usize, collected: &mut [i64])
         ≡ areas_to (collected_from file.now) n ++ drop (day_payments * n) collected.old }
 {
     let peak = words::word(file, 3);
-    let mut k: usize = 0;
-    while k < n {
+    for k in 0..n {
         let body = contents::body_at(file, k);
         let terms = Terms {
             peak,
@@ -73,7 +68,6 @@ fn collect_areas(file: &[u8], n: usize, collected: &mut [i64])
         };
         let to = limits::DAY_PAYMENTS * k;
         collecting::collect(terms, body, &mut collected[to..]);
-        k += 1;
     }
 }
 
@@ -84,13 +78,11 @@ fn count_bases(file: &[u8], basis: &[u32], n: usize, counted: &mut [u32])
     ensures { counted.new
         ≡ areas_to (basis_of file.now basis.now) n ++ drop (day_payments * n) counted.old }
 {
-    let mut k: usize = 0;
-    while k < n {
+    for k in 0..n {
         let body = contents::body_at(file, k);
         let from = limits::DAY_HOURS * k;
         let to = limits::DAY_PAYMENTS * k;
         collecting::count_basis(body, &basis[from..], &mut counted[to..]);
-        k += 1;
     }
 }
 
@@ -106,10 +98,10 @@ pub fn pay_out(file: &[u8], basis: &[u32], payments: &mut [i64]) -> Result<(), R
     collect_areas(file, n, payments);
     if paying::nothing_collected(payments, n) {
         paying::clear_rests(n, payments);
-        return v;
+        return Ok(());
     }
     let mut bases = [0u32; limits::DAY_PAYMENTS * limits::MOST_AREAS];
     count_bases(file, basis, n, &mut bases);
     paying::pay_columns(&bases, n, payments);
-    v
+    Ok(())
 }

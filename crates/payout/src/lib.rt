@@ -24,6 +24,7 @@ fn hour_basis(basis: &[u32], n: usize, h: usize) -> u64
 }
 
 // Whether the basis of n areas keeps its rule. What adds up to at most 10,000,000 has no larger number in it.
+#[tactic(auto, using(verdict::proofs::First::in_order, payout_rules::proofs::Basis::hour_kept), unfolding(payout_rules::specs::PayOut::basis_rule))]
 fn check_basis(basis: &[u32], n: usize) -> Result<(), Refusal>
     requires { n ≤ proved_areas }
     ensures { result ≡ basis_rule basis.now n }
@@ -40,6 +41,7 @@ fn check_basis(basis: &[u32], n: usize) -> Result<(), Refusal>
 }
 
 // All that is refused: what settling refuses, where a statement of any length fits, then 23 and 24.
+#[tactic(auto, using(verdict::proofs::First::in_order, payout_rules::proofs::Rule::never_thirteen), unfolding(payout_rules::specs::PayOut::pay_out_rule))]
 fn judge(file: &[u8], basis: &[u32], room: usize) -> Result<(), Refusal>
     ensures { result ≡ pay_out_rule file.now basis.now room }
 {
@@ -54,6 +56,7 @@ fn judge(file: &[u8], basis: &[u32], room: usize) -> Result<(), Refusal>
 }
 
 // What is collected from each area, area after area at the front of `collected`.
+#[tactic(auto, unfolding(payout_rules::specs::PayOut::areas_to))]
 fn collect_areas(file: &[u8], n: usize, collected: &mut [i64])
     requires { (SoundFile file.now) × ((n ≡ areas_of file.now) × (day_payments * n ≤ length collected.old)) }
     ensures { collected.new
@@ -72,6 +75,7 @@ fn collect_areas(file: &[u8], n: usize, collected: &mut [i64])
 }
 
 // The basis of each area that counts, area after area at the front of `counted`.
+#[tactic(auto, unfolding(payout_rules::specs::PayOut::areas_to))]
 fn count_bases(file: &[u8], basis: &[u32], n: usize, counted: &mut [u32])
     requires sound_file { (SoundFile file.now) × (n ≡ areas_of file.now) }
     requires rooms_long_enough { (day_hours * n ≤ length basis.now) × (day_payments * n ≤ length counted.old) }

@@ -2,7 +2,7 @@ use Rattle.std.proofs.Common.{◌≡◌, ℕ, List, ap, ◌∙◌, refl}
 use Rattle.body.specs.Layout.{days_of}
 use Rattle.contents.specs.File.{peak_of, body_at}
 use Rattle.collecting.specs.Directions.{amount_in}
-use Rattle.payout_rules.specs.PayOut.{areas_to, collected_from}
+use Rattle.payout_rules.specs.PayOut.{collected_from}
 use Rattle.payout_rules.proofs.Areas.{areas_step}
 use Rattle.payout.proofs.collect_areas.Goals as goal
 
@@ -10,10 +10,6 @@ use Rattle.payout.proofs.collect_areas.Goals as goal
 collected_there : (file : List ℕ) (k peak days : ℕ) (body : List ℕ) → peak ≡ peak_of file → days ≡ days_of (body_at file k) → body ≡ body_at file k
     → amount_in (record { peak = peak; days = days }) body ≡ collected_from file k
 collected_there file k peak days body e f g = rw (e, f, g) refl
-
-pub loop-k-init : goal.loop-k-init
-unfolding areas_to
-loop-k-init c = refl
 
 pub loop-k-preserved : goal.loop-k-preserved
 loop-k-preserved c =

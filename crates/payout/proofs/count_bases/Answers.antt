@@ -1,11 +1,11 @@
-use Rattle.std.proofs.Common.{◌≡◌, ℕ, ◌*◌, ◌-◌, List, length, take, drop, refl, length-drop}
+use Rattle.std.proofs.Common.{◌≡◌, ℕ, ◌*◌, ◌-◌, List, length, take, drop, length-drop}
 use mathlib.Core.Bool.{cond}
 use native.Mathlib.Nat.{le_refl}
 use lib.Seq.{take_all, get_or-drop}
 use Rattle.limits.specs.Ranges.{day_hours}
 use Rattle.contents.specs.File.{body_at}
 use Rattle.collecting.specs.Directions.{passes, basis_in}
-use Rattle.payout_rules.specs.PayOut.{areas_to, basis_of}
+use Rattle.payout_rules.specs.PayOut.{basis_of}
 use Rattle.payout_rules.proofs.Areas.{areas_step}
 use Rattle.payout.proofs.count_bases.Goals as goal
 
@@ -17,10 +17,6 @@ counted_there file basis k body e =
     let from = day_hours * k in
     rw (e, take_all (length basis - from) (drop from basis) (rw length-drop (le_refl _)))
     (λ i h direction. cond (passes (body_at file k) h direction) (get_or-drop from basis h 0 i) 0)
-
-pub loop-k-init : goal.loop-k-init
-unfolding areas_to
-loop-k-init c = refl
 
 pub loop-k-preserved : goal.loop-k-preserved
 loop-k-preserved c =

@@ -17,15 +17,14 @@ fn hour_basis(basis: &[u32], n: usize, h: usize) -> u64
     ensures { result ≡ total (basis_at basis.now n h) }
 {
     let mut sum: u64 = 0;
-    let mut k: usize = 0;
-    while k < n {
+    for k in 0..n {
         sum += basis[limits::DAY_HOURS * k + h] as u64;
-        k += 1;
     }
     sum
 }
 
 // Whether the basis of n areas keeps its rule. What adds up to at most 10,000,000 has no larger number in it.
+#[tactic(auto, using(verdict::proofs::First::in_order, payout_rules::proofs::Basis::hour_kept), unfolding(payout_rules::specs::PayOut::basis_rule))]
 fn check_basis(basis: &[u32], n: usize) -> Result<(), Refusal>
     requires { n ≤ proved_areas }
     ensures { result ≡ basis_rule basis.now n }
@@ -33,17 +32,16 @@ fn check_basis(basis: &[u32], n: usize) -> Result<(), Refusal>
     if basis.len() != limits::DAY_HOURS * n {
         return Err(Refusal::BadBasis);
     }
-    let mut h: usize = 0;
-    while h < limits::DAY_HOURS {
+    for h in 0..limits::DAY_HOURS {
         if (limits::MOST_BASIS as u64) < hour_basis(basis, n, h) {
             return Err(Refusal::BadBasis);
         }
-        h += 1;
     }
     Ok(())
 }
 
 // All that is refused: what settling refuses, where a statement of any length fits, then 23 and 24.
+#[tactic(auto, using(verdict::proofs::First::in_order, payout_rules::proofs::Rule::never_thirteen), unfolding(payout_rules::specs::PayOut::pay_out_rule))]
 fn judge(file: &[u8], basis: &[u32], room: usize) -> Result<(), Refusal>
     ensures { result ≡ pay_out_rule file.now basis.now room }
 {
@@ -54,18 +52,18 @@ fn judge(file: &[u8], basis: &[u32], room: usize) -> Result<(), Refusal>
     if room < needed {
         return Err(Refusal::PaymentRoomTooShort { needed });
     }
-    second
+    Ok(())
 }
 
 // What is collected from each area, area after area at the front of `collected`.
+#[tactic(auto, unfolding(payout_rules::specs::PayOut::areas_to))]
 fn collect_areas(file: &[u8], n: usize, collected: &mut [i64])
     requires { (SoundFile file.now) × ((n ≡ areas_of file.now) × (day_payments * n ≤ length collected.old)) }
     ensures { collected.new
         ≡ areas_to (collected_from file.now) n ++ drop (day_payments * n) collected.old }
 {
     let peak = words::word(file, 3);
-    let mut k: usize = 0;
-    while k < n {
+    for k in 0..n {
         let body = contents::body_at(file, k);
         let terms = Terms {
             peak,
@@ -73,24 +71,22 @@ fn collect_areas(file: &[u8], n: usize, collected: &mut [i64])
         };
         let to = limits::DAY_PAYMENTS * k;
         collecting::collect(terms, body, &mut collected[to..]);
-        k += 1;
     }
 }
 
 // The basis of each area that counts, area after area at the front of `counted`.
+#[tactic(auto, unfolding(payout_rules::specs::PayOut::areas_to))]
 fn count_bases(file: &[u8], basis: &[u32], n: usize, counted: &mut [u32])
     requires sound_file { (SoundFile file.now) × (n ≡ areas_of file.now) }
     requires rooms_long_enough { (day_hours * n ≤ length basis.now) × (day_payments * n ≤ length counted.old) }
     ensures { counted.new
         ≡ areas_to (basis_of file.now basis.now) n ++ drop (day_payments * n) counted.old }
 {
-    let mut k: usize = 0;
-    while k < n {
+    for k in 0..n {
         let body = contents::body_at(file, k);
         let from = limits::DAY_HOURS * k;
         let to = limits::DAY_PAYMENTS * k;
         collecting::count_basis(body, &basis[from..], &mut counted[to..]);
-        k += 1;
     }
 }
 
@@ -106,10 +102,10 @@ pub fn pay_out(file: &[u8], basis: &[u32], payments: &mut [i64]) -> Result<(), R
     collect_areas(file, n, payments);
     if paying::nothing_collected(payments, n) {
         paying::clear_rests(n, payments);
-        return v;
+        return Ok(());
     }
     let mut bases = [0u32; limits::DAY_PAYMENTS * limits::MOST_AREAS];
     count_bases(file, basis, n, &mut bases);
     paying::pay_columns(&bases, n, payments);
-    v
+    Ok(())
 }

@@ -1,5 +1,5 @@
 -- The rule of the basis (23): by what each hour adds up to alone, and what an acceptance says.
-use Prim.Native.Nat.{ℕ, zero, suc, ◌*◌, ◌-◌, ◌≤◌, ◌<◌, zero-le}
+use Prim.Native.Nat.{ℕ, zero, suc, ◌*◌, ◌≤◌, ◌<◌, zero-le}
 use mathlib.Core.Bool.{Bool, true, false, cond}
 use mathlib.Core.List.{List, [], ◌∷◌}
 use mathlib.Core.Path.{◌≡◌, refl}
@@ -7,6 +7,7 @@ use native.Mathlib.Omega.{arith}
 use borrow.Author.Tests.{leb-true, eqb-true, le-leb, lt-leb}
 use lib.Dec.{leb, eqb}
 use lib.ListN.{length}
+use Rattle.std.specs.Prelude.{Err}
 use Rattle.exact.specs.Total.{total}
 use Rattle.limits.specs.Ranges.{day_hours, most_basis}
 use Rattle.verdict.specs.declared.Refusal.TheVariants.{BadBasis}
@@ -29,11 +30,11 @@ module _ (basis : List ℕ) (n h : ℕ) where
   unfolding hour_basis_rule
   hour_kept small = rw (within_total most_basis (basis_at basis n h) small, le-leb (total (basis_at basis n h)) most_basis small)
 
-  pub hour_broken : most_basis < total (basis_at basis n h) → hour_basis_rule basis n h ≡ BadBasis
+  pub hour_broken : most_basis < total (basis_at basis n h) → hour_basis_rule basis n h ≡ Err BadBasis
   unfolding hour_basis_rule
   hour_broken large = rw (lt-leb (total (basis_at basis n h)) most_basis large) (either (all_within most_basis (basis_at basis n h)))
     where
-      either : (t : Bool) → (rule t else BadBasis then BadBasis) ≡ BadBasis
+      either : (t : Bool) → (rule t else BadBasis then Err BadBasis) ≡ Err BadBasis
       either true = refl
       either false = refl
 

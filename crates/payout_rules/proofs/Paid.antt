@@ -21,7 +21,7 @@ use Rattle.collecting.specs.Directions.{Direction, column_at, day_of}
 use Rattle.collecting.proofs.Hours.{hours_length}
 use Rattle.collecting.proofs.Sizes.{direction_small}
 use Rattle.paying.specs.Paid.{rest_of, paid_of}
-use Rattle.paying.specs.Columns.{each, column, column_paid, paid_to}
+use Rattle.paying.specs.Columns.{column, column_paid, paid_to}
 use Rattle.paying.specs.Ranges.{TableKept}
 use Rattle.paying.proofs.Columns.{each_length, paid_to_length, not_paid, paid_there}
 use Rattle.payout_rules.specs.PayOut.{areas_to, basis_at, collected_from, collected_at, payments_needed, basis_of, passing_basis, payment_at, rest_at, payments_of}

@@ -4,6 +4,8 @@
 ghost use Rattle.std.specs.Prelude.{◌≡◌, ◌<◌};
 ghost use Rattle.verdict.specs.Verdict.{number_of, place_of, refusal_number, refusal_place, coded};
 
+use std::fmt;
+
 // A case for each refusal of docs/RULES.md, in the order of their numbers. Each case's number and place are those of specs/Verdict.antt.
 #[derive(Clone, Copy, Debug, PartialEq, Eq)]
 pub enum Refusal {
@@ -93,6 +95,13 @@ impl Refusal {
             Refusal::DateThereOrAbsent => 0,
             Refusal::BadBasis => 0,
         }
+    }
+}
+
+// The number and the place, as the programs print them.
+impl fmt::Display for Refusal {
+    fn fmt<W: fmt::Write>(&self, f: &mut fmt::Formatter<W>) -> fmt::Result {
+        write!(f, "{} {}", self.number(), self.place())
     }
 }
 

@@ -6,6 +6,7 @@ use borrow.Author.Tests.{ne_eqb}
 use Rattle.verdict.specs.Verdict.{Accepted}
 use Rattle.std.specs.Prelude.{Err}
 use Rattle.verdict.specs.declared.Refusal.{Refusal}
+use Rattle.verdict.proofs.First.{in_order}
 use Rattle.verdict.proofs.Accepted.{no_refusal_is_zero}
 use Rattle.contents.specs.File.{day_of}
 use Rattle.book.specs.Days.{book_of}
@@ -14,8 +15,10 @@ use Rattle.keeping_moves.specs.Moves.{day_of_file, emptied}
 use Rattle.keeping.specs.Keeping.{add_rule, with_day, withdraw_rule, without_day}
 use Rattle.keeping_moves.specs.Moves.{added_at, without_at}
 use Rattle.keeping_places.specs.Place.{before_first, not_earlier}
+use Rattle.book.proofs.Kept.{sound_book}
+use Rattle.keeping_places.proofs.Scan.{scan_within}
 use Rattle.keeping.proofs.Placed.{added_inserted, without_removed}
-use Rattle.keeping.proofs.Rules.{missed}
+use Rattle.keeping.proofs.Rules.{missed, is_there_lem, is_absent}
 
 module _ (room file : List ℕ) where
   pub not_added : (refusal : Refusal) → add_rule room file ≡ Err refusal → with_day room file ≡ room
@@ -39,3 +42,6 @@ module _ (room : List ℕ) (date : ℕ) where
       → without_day room date ≡ book_of (without_at room (missed room date)) (emptied room)
   unfolding without_day
   day_withdrawn accepted h = rw accepted (ap (λ days. book_of days (emptied room)) (sym (without_removed room date (missed room date) refl h)))
+
+-- what withdrawing follows from: its rule in order, and what the scan of a sound book found
+pub ruleset withdrawing = (in_order, sound_book, scan_within, is_there_lem, is_absent, nothing_withdrawn, day_withdrawn)

@@ -55,7 +55,7 @@ pub fn add_day(book: &mut [u8], file: &[u8]) -> Result<(), Refusal>
 }
 
 // Checks the book, then takes out the day of that date. What is freed becomes 0, and a refusal leaves the book as it was.
-#[tactic(auto, using(verdict::proofs::First::in_order, book::proofs::Kept::sound_book, crate::proofs::Rules::is_there_lem, crate::proofs::Rules::is_absent, crate::proofs::Results::nothing_withdrawn, crate::proofs::Results::day_withdrawn, keeping_places::proofs::Scan::scan_within), unfolding(crate::specs::Keeping::withdraw_rule))]
+#[tactic(auto, using(crate::proofs::Results::withdrawing), unfolding(crate::specs::Keeping::withdraw_rule))]
 pub fn withdraw_day(book: &mut [u8], date: u32) -> Result<(), Refusal>
     ensures value { result ≡ withdraw_rule book.old date }
     ensures book_after { book.new ≡ without_day book.old date }

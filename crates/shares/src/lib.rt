@@ -91,10 +91,7 @@ fn up_to(amount: i64, whole: u32, rates: Option<Rates>, running: u32) -> i64
     requires { IfSome rates (λ rates. rates ≡ rates_of amount whole) × ((running ≤ whole) × ((whole ≤ most_demand) × (nat_abs amount * whole < 2 ^ 63))) }
     ensures { result ≡ up_to amount whole running }
 {
-    if whole == 0 {
-        return 0;
-    }
-    if amount == 0 {
+    if whole == 0 || amount == 0 {
         return 0;
     }
     if running == whole {

@@ -15,6 +15,7 @@ use Rattle.shares.specs.Rates.{rates_of}
 use Rattle.shares.proofs.ByRates.{by_rates}
 use Rattle.shares.proofs.NoDemand.{round_by_zero}
 use Rattle.shares.proofs.up_to.Goals as goal
+use Rattle.shares.proofs.up_to.Goals.{then-whole-eq0-via-then-whole-eq0, then-whole-eq0-via-else-whole-eq0+then-amount-eq0}
 
 zero_times : (n : ℕ) → pos 0 *ℤ pos n ≡ pos 0
 zero_times n = ap pos (zero-mul n)
@@ -60,10 +61,12 @@ next-is c =
     ∙ by_rates (nat_abs c.args.amount) c.args.whole c.args.running (omega (arith, c.if-whole-eq0.false))
 
 pub returns-then-whole-eq0 : goal.returns-then-whole-eq0
-returns-then-whole-eq0 c = rw (c.if-whole-eq0.true, round_by_zero)
-
-pub returns-then-amount-eq0 : goal.returns-then-amount-eq0
-returns-then-amount-eq0 c = rw (zero_bits c.ranges.amount c.if-amount-eq0.true, zero_times c.args.running) (sym (round_zero c.args.whole))
+returns-then-whole-eq0 c =
+    elim c.then-whole-eq0.branch [
+      | then-whole-eq0-via-then-whole-eq0 w ↦ rw (w.if-whole-eq0.true, round_by_zero)
+      | then-whole-eq0-via-else-whole-eq0+then-amount-eq0 w ↦
+          rw (zero_bits c.ranges.amount w.if-amount-eq0.true, zero_times c.args.running) (sym (round_zero c.args.whole))
+    ]
 
 pub returns-then-running-whole : goal.returns-then-running-whole
 returns-then-running-whole c =

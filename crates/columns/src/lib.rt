@@ -1,13 +1,15 @@
 // An amount shared over a table of rows, which are checked first.
 #![tactic(auto)]
 
-ghost use Rattle.std.specs.Prelude.{◌≡◌, ◌≤◌, leb, nat_abs, length, take, IfOk};
+ghost use Rattle.std.specs.Prelude.{◌≡◌, ◌++◌, ◌*◌, ◌^◌, ◌≤◌, ◌<◌, leb, nat_abs, length, drop, IfOk};
 ghost use Rattle.exact.specs.Total.{total};
-ghost use Rattle.limits.specs.Ranges.{most_coordinators, most_demand, most_amount};
+ghost use Rattle.limits.specs.Ranges.{most_demand, most_amount};
 ghost use Rattle.verdict.specs.Verdict.{verdict_in};
+ghost use Rattle.shares.specs.Shares.{shares};
 ghost use Rattle.columns.specs.Rows.{coordinator_column, demand_column};
 ghost use Rattle.columns.specs.Columns.{row_rule, rows_rule, charges_rule, columns_rule, SharedColumns};
 
+use shares::Carried;
 use verdict::Refusal;
 
 #[derive(Clone, Copy)]
@@ -69,25 +71,34 @@ fn check(amount: i64, rows: &[Row], room: usize) -> Result<(), Refusal>
     check_charges(amount, whole, rows.len(), room)
 }
 
-// The demands of the rows, in a column of their own, since an amount is shared over numbers.
-fn demands_of(rows: &[Row]) -> [u32; limits::MOST_COORDINATORS]
-    requires { length rows.now ≤ most_coordinators }
-    ensures { take (length rows.now) result ≡ demand_column rows.now }
+fn demand_of(rows: &[Row]) -> u32
+    requires { total (demand_column rows.now) < 2 ^ 32 }
+    ensures { result ≡ total (demand_column rows.now) }
 {
-    let mut demands = [0; limits::MOST_COORDINATORS];
-    for (i, row) in rows.iter().enumerate() {
-        demands[i] = row.demand;
+    let mut sum = 0;
+    for row in rows {
+        sum += row.demand;
     }
-    demands
+    sum
+}
+
+// The shares of the amount at the front of the charges.
+fn charge_rows(amount: i64, rows: &[Row], charges: &mut [i64])
+    requires small { (total (demand_column rows.now) ≤ most_demand) × (nat_abs amount * total (demand_column rows.now) < 2 ^ 63) }
+    requires room_enough { length rows.now ≤ length charges.old }
+    ensures { charges.new ≡ shares amount (demand_column rows.now) ++ drop (length (demand_column rows.now)) charges.old }
+{
+    let mut carried = Carried::begin(amount, demand_of(rows), rows.len());
+    for (i, row) in rows.iter().enumerate() {
+        charges[i] = carried.charge(row.demand);
+    }
 }
 
 // All is checked before the first charge is written.
 pub fn share_rows(amount: i64, rows: &[Row], charges: &mut [i64]) -> Result<(), Refusal>
-    requires { length rows.now ≤ most_coordinators }
     ensures { SharedColumns amount (coordinator_column rows.now) (demand_column rows.now) charges.old result charges.new }
 {
     check(amount, rows, charges.len())?;
-    let demands = demands_of(rows);
-    shares::share_demands(amount, &demands[..rows.len()], charges);
+    charge_rows(amount, rows, charges);
     Ok(())
 }

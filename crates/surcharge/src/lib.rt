@@ -41,6 +41,7 @@ pub struct OnPeak {
 }
 
 // The tier of an hour; nothing is rounded.
+// A tier stays a number, 0 to 3: that is what the clauses of these public functions promise, and the rules compare tiers as numbers.
 pub fn tier(upward: Quantity, requirement: Quantity) -> u32
     requires { upward.0 ≤ most_upward }
     ensures { result ≡ tier_of upward.0 requirement.0 }

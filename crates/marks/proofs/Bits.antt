@@ -150,6 +150,11 @@ unfolding bits_below
 bits_most marks zero = omega arith
 bits_most marks (suc n) = omega (arith, bits_most marks n, bit_most marks n)
 
+-- what the two loops are proved by
+pub ruleset ageing = (aged_gone, aged_small, aged_start, aged_next)
+
+pub ruleset counting = (bits_next, left_next, bits_most)
+
 pub bits_none : (n : ℕ) → bits_below 0 n ≡ 0
 unfolding bits_below
 bits_none zero = refl

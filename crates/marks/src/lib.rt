@@ -8,7 +8,7 @@ ghost use Rattle.marks.specs.Marks.{aged, counted};
 pub const MARKS_END: u32 = 1073741824;
 
 // The marks g days later.
-#[tactic(auto, using(crate::proofs::Bits::aged_gone, crate::proofs::Bits::aged_small, crate::proofs::Bits::aged_start, crate::proofs::Bits::aged_next))]
+#[tactic(auto, using(crate::proofs::Bits::ageing))]
 pub fn age(marks: u32, g: u32) -> u32
     ensures { result ≡ aged marks g }
 {
@@ -23,7 +23,7 @@ pub fn age(marks: u32, g: u32) -> u32
 }
 
 // d for a day g days after the last one.
-#[tactic(auto, using(crate::proofs::Bits::bits_next, crate::proofs::Bits::left_next, crate::proofs::Bits::bits_most), unfolding(crate::specs::Marks::bits_below))]
+#[tactic(auto, using(crate::proofs::Bits::counting), unfolding(crate::specs::Marks::bits_below))]
 pub fn count(marks: u32, g: u32) -> u32
     ensures { result ≡ counted marks g }
 {

@@ -70,19 +70,17 @@ pub fn age_all(given: Record, date: u32, g: u32) -> Record
     for p in &given.places[..given.held as usize] {
         let marks = marks::age(p.marks, g);
         if marks != 0 {
-            out = push(
-                out,
-                Place {
-                    area: p.area,
-                    marks,
-                },
-            );
+            let kept = Place {
+                area: p.area,
+                marks,
+            };
+            out = push(out, kept);
         }
     }
     out
 }
 
-// The first of some places that an area does not stand behind.
+// Where the first of some places stands whose area is not below an area.
 fn place_of(places: &[Place], area: u32) -> Option<usize>
     ensures { result ≡ position (λ p. leb area p.area) places.now }
 {

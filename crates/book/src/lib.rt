@@ -2,10 +2,10 @@
 #![tactic(auto)]
 
 ghost use Rattle.std.specs.Prelude.{◌≡◌, ◌+◌, ◌*◌, ◌≤◌, ◌<◌, ◌^◌, length};
-ghost use Rattle.verdict.specs.First.{◌or_else◌, scan};
+ghost use Rattle.verdict.specs.First.{scan};
 ghost use Rattle.moving.specs.Written.{part};
 ghost use Rattle.book.specs.Read.{count_of, date_at, start_at, size_at, due_at};
-ghost use Rattle.book.specs.Check.{most_book_days, entry_rule, entry_rule_at, date_rule_at, book_rule};
+ghost use Rattle.book.specs.Check.{entry_rule, entry_rule_at, date_rule_at, book_rule};
 ghost use Rattle.book.specs.Sound.{Sound};
 
 use verdict::Refusal;
@@ -88,18 +88,8 @@ fn dates(book: &[u8], n: usize) -> Result<(), Refusal>
     Ok(())
 }
 
-// The contents, then word 1 of each file.
-#[tactic(auto, using(verdict::proofs::First::in_order, crate::proofs::Kept::sound_contents))]
-fn check_days(book: &[u8], n: usize) -> Result<(), Refusal>
-    requires { (n ≡ count_of book.now) × ((n ≤ most_book_days) × (8 + 12 * n ≤ length book.now)) }
-    ensures { result ≡ (scan (entry_rule_at book.now) 0 n or_else scan (date_rule_at book.now) 0 n) }
-{
-    contents(book, n)?;
-    dates(book, n)
-}
-
 // The first word of a book that breaks its rule. The days themselves are not checked.
-#[tactic(auto, using(std::proofs::lemmas::Bool::Decides::nat_tests), unfolding(crate::specs::Check::book_rule))]
+#[tactic(auto, using(verdict::proofs::First::in_order, crate::proofs::Kept::sound_contents, std::proofs::lemmas::Bool::Decides::nat_tests), unfolding(crate::specs::Check::book_rule))]
 pub fn check(book: &[u8]) -> Result<(), Refusal>
     ensures { result ≡ book_rule book.now }
 {
@@ -111,7 +101,8 @@ pub fn check(book: &[u8]) -> Result<(), Refusal>
     if MOST_BOOK_DAYS < n || words < 2 + 3 * n {
         return Err(Refusal::BadBook { word: 1 });
     }
-    check_days(book, n)
+    contents(book, n)?;
+    dates(book, n)
 }
 
 // The word at which the file of day k is due; for the number of days, where the book ends.

@@ -20,7 +20,8 @@ module _ (rows : List Row) (i : ℕ) where
   demand_there = get_or-map (λ row. row.demand) rows i no_row
 
   -- the rule of row i, by what is known of those before it
-  pub row_there : (before running : ℕ) → before ≡ coordinator_above (coordinator_column rows) i → running ≡ total (take i (demand_column rows))
+  pub row_there : (before running : ℕ) → before ≡ coordinator_above (coordinator_column rows) i
+      → running ≡ total (take i (demand_column rows))
       → row_rule_at (coordinator_column rows) (demand_column rows) i
       ≡ row_rule i before running (get_or rows i no_row).coordinator (get_or rows i no_row).demand
   unfolding row_rule_at

@@ -29,9 +29,11 @@ module _ (room file : List ℕ) where
   abbrev pub new_place : ℕ
   new_place = before_first room (not_earlier (day_of file)) 0 (count_of room)
 
-  pub day_added : add_rule room file ≡ Accepted → with_day room file ≡ book_of (added_at room new_place (day_of_file file)) room
+  pub day_added : add_rule room file ≡ Accepted
+      → with_day room file ≡ book_of (added_at room new_place (day_of_file file)) room
   unfolding with_day
-  day_added accepted = rw accepted (ap (λ days. book_of days room) (sym (added_inserted room (day_of_file file) new_place refl)))
+  day_added accepted =
+      rw accepted (ap (λ days. book_of days room) (sym (added_inserted room (day_of_file file) new_place refl)))
 
 module _ (room : List ℕ) (date : ℕ) where
   pub nothing_withdrawn : (refusal : Refusal) → withdraw_rule room date ≡ Err refusal → without_day room date ≡ room
@@ -41,7 +43,9 @@ module _ (room : List ℕ) (date : ℕ) where
   pub day_withdrawn : withdraw_rule room date ≡ Accepted → missed room date < count_of room
       → without_day room date ≡ book_of (without_at room (missed room date)) (emptied room)
   unfolding without_day
-  day_withdrawn accepted h = rw accepted (ap (λ days. book_of days (emptied room)) (sym (without_removed room date (missed room date) refl h)))
+  day_withdrawn accepted h =
+      let removed = without_removed room date (missed room date) refl h in
+      rw accepted (ap (λ days. book_of days (emptied room)) (sym removed))
 
 -- what withdrawing follows from: its rule in order, and what the scan of a sound book found
 pub ruleset withdrawing = (in_order, sound_book, scan_within, is_there_lem, is_absent, nothing_withdrawn, day_withdrawn)

@@ -32,8 +32,7 @@ fn settle_day(file: &[u8], statement: &mut [i64]) -> DayPart
         }
     };
     let needed = settlement::numbers_needed(file, words::word(file, 2) as usize);
-    let own = [0u32; 0];
-    let answer = settlement::settle_accepted(plain, &own, file, statement);
+    let answer = settlement::settle_accepted(plain, &[], file, statement);
     DayPart {
         answer,
         numbers: needed.min(statement.len()),

@@ -10,8 +10,9 @@ use Rattle.book.proofs.Kept.{entry_there}
 use Rattle.book.proofs.contents.Goals as goal
 
 -- the rule of entry k, by the words that were read
-turn : (room : List ℕ) (k before due date start size : ℕ) → before ≡ date_before room k → due ≡ due_at room k → date ≡ date_at room k
-    → start ≡ start_at room k → size ≡ size_at room k → entry_rule (room_words room) (2 + 3 * k) before due date start size ≡ entry_rule_at room k
+turn : (room : List ℕ) (k before due date start size : ℕ) → before ≡ date_before room k → due ≡ due_at room k
+    → date ≡ date_at room k → start ≡ start_at room k → size ≡ size_at room k
+    → entry_rule (room_words room) (2 + 3 * k) before due date start size ≡ entry_rule_at room k
 unfolding entry_rule_at
 turn room k before due date start size b d t s z = rw (b, d, t, s, z)
 

@@ -10,4 +10,6 @@ use Rattle.columns.proofs.check.Goals as goal
 
 pub returns : goal.returns
 unfolding columns_rule
-returns c = let long = length-map c.args.rows.now (λ (row : Row). row.demand) in grind (arith, in_order, nat_tests, ints)
+returns c =
+    let long = length-map c.args.rows.now (λ (row : Row). row.demand) in
+    grind (arith, in_order, nat_tests, ints)

@@ -25,7 +25,8 @@ returns-in_err-check_row-clause-answer_value c =
 pub overflow_add-running : goal.overflow_add-running
 overflow_add-running c =
     let demand = (get_or c.args.rows.now c.loop-i.i no_row).demand in
-    omega (arith, (demand_kept c.loop-i.i c.loop-i.running demand (or_second _ _ (ap number_of (sym c.in_ok-check_row.ensures)))).1)
+    let accepted = or_second _ _ (ap number_of (sym c.in_ok-check_row.ensures)) in
+    omega (arith, (demand_kept c.loop-i.i c.loop-i.running demand accepted).1)
 
 pub loop-i-preserved : goal.loop-i-preserved
 loop-i-preserved c =

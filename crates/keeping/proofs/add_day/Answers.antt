@@ -8,14 +8,19 @@ use Rattle.keeping.proofs.Rules.{add_file, add_long, add_sound, add_taken}
 use Rattle.keeping.proofs.add_day.Goals as goal
 
 pub word-date-requires : goal.word-date-requires
-word-date-requires c = omega (arith, add_long c.args.book.now c.args.file.now (ap number_of (sym c.in_ok-admit.ensures)))
+word-date-requires c =
+    let accepted = ap number_of (sym c.in_ok-admit.ensures) in
+    omega (arith, add_long c.args.book.now c.args.file.now accepted)
 
 pub word-n-requires : goal.word-n-requires
-word-n-requires c = omega (arith, (add_sound c.args.book.now c.args.file.now (ap number_of (sym c.in_ok-admit.ensures))).whole)
+word-n-requires c =
+    let accepted = ap number_of (sym c.in_ok-admit.ensures) in
+    omega (arith, (add_sound c.args.book.now c.args.file.now accepted).whole)
 
 pub place-k-requires : goal.place-k-requires
 place-k-requires c =
-    omega (arith, c.word-n.ensures, (add_sound c.args.book.now c.args.file.now (ap number_of (sym c.in_ok-admit.ensures))).whole)
+    let accepted = ap number_of (sym c.in_ok-admit.ensures) in
+    omega (arith, c.word-n.ensures, (add_sound c.args.book.now c.args.file.now accepted).whole)
 
 pub add_at-requires : goal.add_at-requires
 add_at-requires c =
@@ -27,7 +32,7 @@ add_at-requires c =
     record {
       dated = c.word-date.ensures;
       sound = add_sound room file accepted;
-      place = omega (arith, c.place-k.ensures, c.word-n.ensures, scan_within room (not_earlier c.word-date.result) 0 c.word-n.result);
+      place = omega (arith, c.word-n.ensures, scan_within room (not_earlier c.word-date.result) 0 c.word-n.result);
       fits = omega (arith, taken.fits, bytes.whole);
       some = omega (arith, bytes.least);
       named = taken.named;

@@ -6,7 +6,8 @@ use Rattle.exact.proofs.Filling.{fill_end}
 use Rattle.book.specs.Read.{day_at, days_from}
 use Rattle.settlement.proofs.Places.{place_coded}
 use Rattle.month_rules.specs.Month.{places_of}
-use Rattle.month_rules.proofs.Days.{none_settled, file_is, days_next, days_done, Turn, length_turn, inside_turn, statement_turn, table_turn}
+use Rattle.month_rules.proofs.Days.{none_settled, file_is, days_next, days_done}
+use Rattle.month_rules.proofs.Days.{Turn, length_turn, inside_turn, statement_turn, table_turn}
 use Rattle.month.proofs.settle_days.Goals as goal
 
 pub code-requires : goal.code-requires
@@ -17,18 +18,20 @@ loop-i-preserved c =
     let book = c.args.book.now in
     let l = c.loop-i in
     let day = c.settle_day-part in
-    let turn : Turn (day_at book l.i) c.file_at.result.now l.statement day.new.statement l.to day.result.numbers = record {
+    let turn : Turn (day_at book l.i) c.file_at.result.now l.statement day.new.statement l.to day.result.numbers =
+    record {
       is = c.file_at.ensures ∙ sym (file_is book l.i);
       inside = l.invariant.inside;
       settled = day.ensures.statement_after;
       clipped = day.ensures.numbers_value;
     } in
     let rest = days_from book (l.i + 1) (c.args.n - (l.i + 1)) in
-    let next = days_next book l.i c.args.n c.loop-i-test.true in record {
+    let next = days_next book l.i c.args.n c.loop-i-test.true in
+    let place = c.code.ensures ∙ ap coded day.ensures.answer_value in record {
       inside = inside_turn turn;
       long = length_turn turn ∙ l.invariant.long;
       settled = statement_turn turn rest _ (rw next at l.invariant.settled);
-      told = table_turn turn _ _ _ rest l.i _ (c.code.ensures ∙ ap coded day.ensures.answer_value) (rw next at l.invariant.told)
+      told = table_turn turn _ _ _ rest l.i _ place (rw next at l.invariant.told)
           (omega (arith, l.invariant.told.kept));
     }
 

@@ -1,4 +1,4 @@
--- A refusal leaves both as they were; otherwise the days of a sound book are settled, and the table has a place for each.
+-- A refusal leaves both as they were; else the days of a sound book are settled, and the table has a place for each.
 use Rattle.std.proofs.Common.{◌∙◌, ◌++◌, refl, ap, sym, length, drop, arith}
 use Rattle.std.proofs.lemmas.Result.{err_from_is_err_and}
 use Rattle.verdict.specs.Verdict.{number_of}
@@ -28,9 +28,11 @@ settle_days-requires c =
     (sound_book _ (checked _ _ passed), (c.word-n.ensures, omega (arith, c.word-n.ensures, places_enough _ _ passed)))
 
 pub returns-clause-statement_after : goal.returns-clause-statement_after
-returns-clause-statement_after c = c.settle_days.ensures.statement_after ∙ sym (statement_settled _ _ c.args.statement.now refl)
+returns-clause-statement_after c =
+    c.settle_days.ensures.statement_after ∙ sym (statement_settled _ _ c.args.statement.now refl)
 
 pub returns-clause-table_after : goal.returns-clause-table_after
 returns-clause-table_after c =
-    let told = ap (λ n. places_of (length c.args.statement.now) (days_of c.args.book.now) ++ drop n c.args.table.now) c.word-n.ensures in
+    let places = places_of (length c.args.statement.now) (days_of c.args.book.now) in
+    let told = ap (λ n. places ++ drop n c.args.table.now) c.word-n.ensures in
     c.settle_days.ensures.table_after ∙ told ∙ sym (table_told _ _ _ c.args.table.now refl)

@@ -1,26 +1,23 @@
 // Pays out under 8088 what was collected under 8080: the call `pay_out`.
 #![tactic(auto)]
 
-ghost use Rattle.std.specs.Prelude.{◌≡◌, ◌++◌, ◌+◌, ◌*◌, ◌≤◌, ◌<◌, length, drop};
-ghost use Rattle.exact.specs.Total.{total};
+ghost use Rattle.std.specs.Prelude.{◌≡◌, ◌++◌, ◌+◌, ◌*◌, ◌≤◌, ◌<◌, length, drop, IfOk, sum_by, slice_index};
 ghost use Rattle.limits.specs.Ranges.{day_hours, day_payments, proved_areas};
+ghost use Rattle.verdict.specs.Verdict.{verdict_in};
 ghost use Rattle.contents.specs.File.{areas_of};
 ghost use Rattle.settlement.specs.SoundFile.{SoundFile};
-ghost use Rattle.payout_rules.specs.PayOut.{areas_to, basis_at, basis_rule, collected_from, basis_of, pay_out_rule, payments_after};
+ghost use Rattle.payout_rules.specs.PayOut.{areas_to, basis_rule, collected_from, basis_of, pay_out_rule, payments_after};
+ghost use Rattle.payout_rules.specs.Payable.{Payable};
 
 use surcharge::Terms;
 use verdict::Refusal;
 
-// What the basis of hour h adds up to, over n areas.
-fn hour_basis(basis: &[u32], n: usize, h: usize) -> u64
-    requires { (n ≤ proved_areas) × ((h < day_hours) × (day_hours * n ≤ length basis.now)) }
-    ensures { result ≡ total (basis_at basis.now n h) }
+// What the basis of hour h adds up to, over the areas.
+fn hour_basis(areas: &[[u32; limits::DAY_HOURS]], h: usize) -> u64
+    requires { (length areas.now ≤ proved_areas) × (h < day_hours) }
+    ensures { result ≡ sum_by (λ area. slice_index area h) areas.now }
 {
-    let mut sum: u64 = 0;
-    for k in 0..n {
-        sum += basis[limits::DAY_HOURS * k + h] as u64;
-    }
-    sum
+    areas.iter().map(|area| u64::from(area[h])).sum()
 }
 
 // Whether the basis of n areas keeps its rule. What adds up to at most 10,000,000 has no larger number in it.
@@ -32,18 +29,21 @@ fn check_basis(basis: &[u32], n: usize) -> Result<(), Refusal>
     if basis.len() != limits::DAY_HOURS * n {
         return Err(Refusal::BadBasis);
     }
+    let (areas, _) = basis.as_chunks::<{ limits::DAY_HOURS }>();
     for h in 0..limits::DAY_HOURS {
-        if (limits::MOST_BASIS as u64) < hour_basis(basis, n, h) {
+        if (limits::MOST_BASIS as u64) < hour_basis(areas, h) {
             return Err(Refusal::BadBasis);
         }
     }
     Ok(())
 }
 
-// All that is refused: what settling refuses, where a statement of any length fits, then 23 and 24.
+// The number of areas, or the first refusal: what settling refuses, where a statement of any length fits, then 23 and 24.
 #[tactic(auto, using(verdict::proofs::First::in_order, payout_rules::proofs::Rule::never_thirteen), unfolding(payout_rules::specs::PayOut::pay_out_rule))]
-fn judge(file: &[u8], basis: &[u32], room: usize) -> Result<(), Refusal>
-    ensures { result ≡ pay_out_rule file.now basis.now room }
+fn judge(file: &[u8], basis: &[u32], room: usize) -> Result<usize, Refusal>
+    ensures value { verdict_in result ≡ pay_out_rule file.now basis.now room }
+    ensures areas { IfOk result (λ n. n ≡ areas_of file.now) }
+    ensures payable { IfOk result (λ _. Payable file.now basis.now room) }
 {
     settlement::answer(file, settlement::MOST_NUMBERS)?;
     let n = words::word(file, 2) as usize;
@@ -52,7 +52,7 @@ fn judge(file: &[u8], basis: &[u32], room: usize) -> Result<(), Refusal>
     if room < needed {
         return Err(Refusal::PaymentRoomTooShort { needed });
     }
-    Ok(())
+    Ok(n)
 }
 
 // What is collected from each area, area after area at the front of `collected`.
@@ -97,8 +97,7 @@ pub fn pay_out(file: &[u8], basis: &[u32], payments: &mut [i64]) -> Result<(), R
     ensures value { result ≡ pay_out_rule file.now basis.now (length payments.old) }
     ensures payments_after { payments.new ≡ payments_after file.now basis.now result payments.old }
 {
-    judge(file, basis, payments.len())?;
-    let n = words::word(file, 2) as usize;
+    let n = judge(file, basis, payments.len())?;
     collect_areas(file, n, payments);
     if paying::nothing_collected(payments, n) {
         paying::clear_rests(n, payments);

@@ -12,7 +12,7 @@ use Rattle.exact.specs.Total.{total}
 use Rattle.limits.specs.Ranges.{day_hours, most_basis}
 use Rattle.verdict.specs.declared.Refusal.TheVariants.{BadBasis}
 use Rattle.verdict.specs.Verdict.{number_of, Accepted}
-use Rattle.verdict.specs.First.{rule◌else◌then◌, scan}
+use Rattle.verdict.specs.First.{scan}
 use Rattle.verdict.proofs.First.{kept, scan_each}
 use Rattle.contents.specs.File.{body_at}
 use Rattle.collecting.specs.Directions.{Direction, passes}
@@ -32,11 +32,7 @@ module _ (basis : List ℕ) (n h : ℕ) where
 
   pub hour_broken : most_basis < total (basis_at basis n h) → hour_basis_rule basis n h ≡ Err BadBasis
   unfolding hour_basis_rule
-  hour_broken large = rw (lt-leb (total (basis_at basis n h)) most_basis large) (either (all_within most_basis (basis_at basis n h)))
-    where
-      either : (t : Bool) → (rule t else BadBasis then Err BadBasis) ≡ Err BadBasis
-      either true = refl
-      either false = refl
+  hour_broken large = grind (arith, lt-leb)
 
 -- what an accepted basis keeps
 module _ (basis : List ℕ) (n : ℕ) (accepted : number_of (basis_rule basis n) ≡ 0) where

@@ -1,7 +1,7 @@
 -- All that is refused, in parts, and what an acceptance says.
 use Prim.Native.Nat.{ℕ, ◌≤◌}
 use mathlib.Core.List.{List, ◌++◌}
-use mathlib.Core.Path.{◌≡◌, refl, ◌∙◌}
+use mathlib.Core.Path.{◌≡◌, ◌∙◌}
 use native.Mathlib.Omega.{arith}
 use borrow.Author.Tests.{leb-true, le-leb, eq-eqb, ne_eqb}
 use lib.Dec.{leb}
@@ -17,9 +17,11 @@ use Rattle.contents.specs.File.{edition_of, areas_of}
 use Rattle.dayfile.specs.Check.{check_of}
 use Rattle.dayfile.proofs.Facts.{within_limits, file_head}
 use Rattle.settlement.specs.Settlement.{most_numbers, numbers_needed, areas_refusal, accepted_rule, days_by, own_days, settle_of}
-use Rattle.settlement.proofs.Accepted.{opened}
+use Rattle.settlement.proofs.Accepted.{opened, sound_file}
 use Rattle.settlement.proofs.Places.{needed_most}
 use Rattle.payout_rules.specs.PayOut.{basis_rule, payments_needed, payments_of, pay_out_rule, payments_after}
+use Rattle.payout_rules.specs.Payable.{Payable}
+use Rattle.payout_rules.proofs.Basis.{basis_long}
 
 -- what settling refuses where every statement fits: never 13
 pub never_thirteen : (file : List ℕ) → settle_of file most_numbers ≡ (check_of file or_else areas_refusal (days_by own_days file) file)
@@ -33,17 +35,13 @@ pub areas_few : (file : List ℕ) → number_of (check_of file) ≡ 0 → areas_
 areas_few file accepted = omega (arith, (file_head _ file (within_limits file accepted)).few, areas_most (edition_of file))
 
 -- 24
-abbrev pub room_rule : (file : List ℕ) (room : ℕ) → Verdict
+abbrev room_rule : (file : List ℕ) (room : ℕ) → Verdict
 room_rule file room = rule leb (payments_needed file) room else PaymentRoomTooShort (payments_needed file) then Accepted
 
 module _ (file basis : List ℕ) (room : ℕ) where
   -- 23, then 24
-  abbrev pub behind_settling : Verdict
+  abbrev behind_settling : Verdict
   behind_settling = basis_rule basis (areas_of file) or_else room_rule file room
-
-  pub parts : pay_out_rule file basis room ≡ ((check_of file or_else areas_refusal (days_by own_days file) file) or_else behind_settling)
-  unfolding pay_out_rule
-  parts = refl
 
   module _ (accepted : number_of (pay_out_rule file basis room) ≡ 0) where
     pub settling_accepted : number_of (check_of file or_else areas_refusal (days_by own_days file) file) ≡ 0
@@ -65,6 +63,15 @@ module _ (file basis : List ℕ) (room : ℕ) where
         leb-true _ _
         (kept (leb (payments_needed file) room) (PaymentRoomTooShort (payments_needed file)) Accepted
         (or_second (basis_rule basis (areas_of file)) _ behind-accepted)).0
+
+    pub payable : Payable file basis room
+    payable =
+        record {
+          sound = sound_file file file_accepted;
+          few = areas_few file file_accepted;
+          counted = basis_long basis (areas_of file) basis_accepted;
+          room_enough = room_enough;
+        }
 
 -- ---- the payments after a refusal, and after none
 

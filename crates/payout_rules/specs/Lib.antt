@@ -1,1 +1,2 @@
 pub mod PayOut
+pub mod Payable

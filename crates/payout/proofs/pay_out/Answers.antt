@@ -4,14 +4,13 @@ use Rattle.limits.specs.Ranges.{day_payments}
 use Rattle.verdict.specs.Verdict.{Accepted, number_of}
 use Rattle.verdict.proofs.Accepted.{refuses}
 use Rattle.contents.specs.File.{areas_of}
-use Rattle.settlement.proofs.Accepted.{sound_file}
 use Rattle.paying.specs.Columns.{paid_to}
 use Rattle.paying.specs.Ranges.{TableKept}
 use Rattle.paying.proofs.Nothing.{nothing_paid}
 use Rattle.payout_rules.specs.PayOut.{areas_to, collected_from, basis_of, payments_of, pay_out_rule, payments_after}
 use Rattle.payout_rules.proofs.Areas.{areas_length}
-use Rattle.payout_rules.proofs.Basis.{basis_long, basis_small}
-use Rattle.payout_rules.proofs.Rule.{file_accepted, basis_accepted, room_enough, areas_few, refused, paid_out_then}
+use Rattle.payout_rules.proofs.Basis.{basis_small}
+use Rattle.payout_rules.proofs.Rule.{file_accepted, basis_accepted, room_enough, refused, paid_out_then}
 use Rattle.payout_rules.proofs.Paid.{table_kept, all_paid}
 use Rattle.payout.proofs.pay_out.Goals as goal
 
@@ -55,61 +54,31 @@ module _ (file basis : List ℕ) (payments : List ℤ) (accepted : number_of (pa
 
 -- ---- the goals
 
-pub returns-in_err-judge-clause-payments_after : goal.returns-in_err-judge-clause-payments_after
-returns-in_err-judge-clause-payments_after c =
+pub returns-in_err-n-clause-payments_after : goal.returns-in_err-n-clause-payments_after
+returns-in_err-n-clause-payments_after c =
     let a = c.args in
     sym (refused a.file.now a.basis.now _ a.payments.now (refuses _ c.from_residual.ensures.0))
-
-pub word-n-requires : goal.word-n-requires
-word-n-requires c =
-    let file = file_accepted _ _ _ (ap number_of (sym c.in_ok-judge.ensures)) in
-    omega (arith, (sound_file _ file).room)
-
-pub collect_areas-requires : goal.collect_areas-requires
-collect_areas-requires c =
-    let accepted = ap number_of (sym c.in_ok-judge.ensures) in (
-      sound_file _ (file_accepted _ _ _ accepted),
-      (c.word-n.ensures, omega (arith, c.word-n.ensures, room_enough _ _ _ accepted)),
-    )
-
-pub nothing_collected-requires : goal.nothing_collected-requires
-nothing_collected-requires c =
-    omega (arith, c.word-n.ensures, room_enough _ _ _ (ap number_of (sym c.in_ok-judge.ensures)))
-
-pub clear_rests-requires : goal.clear_rests-requires
-clear_rests-requires c =
-    omega (arith, c.word-n.ensures, room_enough _ _ _ (ap number_of (sym c.in_ok-judge.ensures)))
 
 -- nothing was collected: the same as if the table were paid out over the areas' bases
 pub returns-then-nothing_collected-clause-payments_after : goal.returns-then-nothing_collected-clause-payments_after
 returns-then-nothing_collected-clause-payments_after c =
     let a = c.args in
-    let n = c.word-n.ensures in
+    let n = c.in_ok-n.ensures.areas in
     let bases = areas_to (basis_of a.file.now a.basis.now) (areas_of a.file.now) ++ [] in
     let nothing = sym (nothing_paid bases _ _ (c.nothing_collected.ensures.only_if_zeros c.if-nothing_collected.true)) in
     c.clear_rests.ensures
     ∙ nothing
-    ∙ rw (n, rw n at c.collect_areas.ensures) (paid_out _ _ a.payments.now (ap number_of (sym c.in_ok-judge.ensures)) [])
-
-pub count_bases-requires-clause-sound_file : goal.count_bases-requires-clause-sound_file
-count_bases-requires-clause-sound_file c =
-    (sound_file _ (file_accepted _ _ _ (ap number_of (sym c.in_ok-judge.ensures))), c.word-n.ensures)
-
-pub count_bases-requires-clause-rooms_long_enough : goal.count_bases-requires-clause-rooms_long_enough
-count_bases-requires-clause-rooms_long_enough c =
-    let accepted = ap number_of (sym c.in_ok-judge.ensures) in
-    let n = c.word-n.ensures in
-    (omega (arith, n, basis_long _ _ (basis_accepted _ _ _ accepted)), omega (arith, n, areas_few _ (file_accepted _ _ _ accepted)))
+    ∙ rw (n, rw n at c.collect_areas.ensures) (paid_out _ _ a.payments.now (ap number_of (sym c.in_ok-n.ensures.value)) [])
 
 pub pay_columns-requires : goal.pay_columns-requires
 pay_columns-requires c =
-    let n = c.word-n.ensures in
+    let n = c.in_ok-n.ensures.areas in
     rw (n, rw n at c.collect_areas.ensures, rw n at c.count_bases.ensures)
-    (kept c.args.file.now c.args.basis.now c.args.payments.now (ap number_of (sym c.in_ok-judge.ensures)) _)
+    (kept c.args.file.now c.args.basis.now c.args.payments.now (ap number_of (sym c.in_ok-n.ensures.value)) _)
 
 pub returns-clause-payments_after : goal.returns-clause-payments_after
 returns-clause-payments_after c =
-    let n = c.word-n.ensures in
+    let n = c.in_ok-n.ensures.areas in
     c.pay_columns.ensures
     ∙ rw (n, rw n at c.collect_areas.ensures, rw n at c.count_bases.ensures)
-    (paid_out _ _ c.args.payments.now (ap number_of (sym c.in_ok-judge.ensures)) _)
+    (paid_out _ _ c.args.payments.now (ap number_of (sym c.in_ok-n.ensures.value)) _)

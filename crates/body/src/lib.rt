@@ -111,6 +111,7 @@ fn coordinators(start: usize, body: &[u8], count: usize) -> Result<(), Refusal>
 // ---- the walk over the hours
 
 // Where the first hour starts.
+#[tactic(auto, using(crate::proofs::HourPlaces::first_hour))]
 pub fn first_hour(load: usize, count: usize) -> usize
     requires { 7 + count < 2 ^ 64 }
     ensures { result ≡ hour_start load count 0 }
@@ -119,6 +120,7 @@ pub fn first_hour(load: usize, count: usize) -> usize
 }
 
 // Where the hour behind hour h starts, which starts at word `at`.
+#[tactic(auto, using(crate::proofs::HourPlaces::hour_next))]
 pub fn next_hour(load: usize, count: usize, h: usize, at: usize) -> usize
     requires { (at ≡ hour_start load count h) × (at + hour_words load count < 2 ^ 64) }
     ensures { result ≡ hour_start load count (h + 1) }

@@ -1,5 +1,5 @@
 -- What is known of a number of an hour whose rule was kept.
-use Rattle.std.proofs.Common.{◌≡◌, ℕ, ◌+◌, Bool, true, false, ◌&&◌, ◌||◌, eqb, leb, nat_abs, sym, refl, ◌∙◌, arith, eq-eqb, leb-true}
+use Rattle.std.proofs.Common.{◌≡◌, ℕ, ◌+◌, Bool, true, false, ◌&&◌, ◌||◌, eqb, leb, nat_abs, sym, refl, ◌∙◌, eq-eqb, leb-true}
 use Rattle.words.specs.Word.{signed_of}
 use Rattle.verdict.specs.Verdict.{number_of}
 use Rattle.verdict.proofs.First.{kept, both}

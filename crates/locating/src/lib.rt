@@ -6,7 +6,7 @@ ghost use Rattle.locating.specs.Locating.{word_within, start_within, head_field,
 ghost use Rattle.locating.specs.Locating.{place_of};
 
 // Which number a word is; of coordinators, intervals and demands which one, from 1.
-#[derive(Clone, Copy)]
+#[derive(Clone, Copy, Debug, PartialEq, Eq)]
 pub enum Field {
     Edition,
     TradingDay,
@@ -38,7 +38,7 @@ pub enum Field {
 }
 
 // The place of a word: which entry of the contents, from 1, and the hour ending, each 0 where there is none.
-#[derive(Clone, Copy)]
+#[derive(Clone, Copy, Debug, PartialEq, Eq)]
 pub struct Place {
     pub entry: usize,
     pub hour: usize,
@@ -46,6 +46,7 @@ pub struct Place {
 }
 
 // Word i of a file; 0 past its last whole word.
+#[tactic(auto, unfolding(crate::specs::Locating::word_within))]
 pub fn word(file: &[u8], i: usize) -> u32
     ensures { result ≡ word_within file.now i }
 {
@@ -59,82 +60,54 @@ pub fn word(file: &[u8], i: usize) -> u32
 fn head_field(word: usize) -> Field
     ensures { result ≡ head_field word }
 {
-    if word == 0 {
-        return Field::Edition;
+    match word {
+        0 => Field::Edition,
+        1 => Field::TradingDay,
+        2 => Field::Areas,
+        _ => Field::PeakWord,
     }
-    if word == 1 {
-        return Field::TradingDay;
-    }
-    if word == 2 {
-        return Field::Areas;
-    }
-    Field::PeakWord
 }
 
 // A word of an entry.
 fn entry_field(word: usize) -> Field
     ensures { result ≡ entry_field word }
 {
-    if word == 0 {
-        return Field::AreaNumber;
+    match word {
+        0 => Field::AreaNumber,
+        1 => Field::FirstWord,
+        _ => Field::Words,
     }
-    if word == 1 {
-        return Field::FirstWord;
-    }
-    Field::Words
 }
 
 // A word of a body's head.
 fn body_field(word: usize) -> Field
     ensures { result ≡ body_field word }
 {
-    if word == 0 {
-        return Field::Kind;
+    match word {
+        0 => Field::Kind,
+        1 => Field::Flag,
+        2 => Field::PersistentDays,
+        3 => Field::HubPriceA,
+        4 => Field::HubPriceB,
+        5 => Field::LoadPoints,
+        _ => Field::Coordinators,
     }
-    if word == 1 {
-        return Field::Flag;
-    }
-    if word == 2 {
-        return Field::PersistentDays;
-    }
-    if word == 3 {
-        return Field::HubPriceA;
-    }
-    if word == 4 {
-        return Field::HubPriceB;
-    }
-    if word == 5 {
-        return Field::LoadPoints;
-    }
-    Field::Coordinators
 }
 
 // One of the eight numbers of an hour.
 fn number_field(word: usize) -> Field
     ensures { result ≡ number_field word }
 {
-    if word == 0 {
-        return Field::UpwardEnergy;
+    match word {
+        0 => Field::UpwardEnergy,
+        1 => Field::RegulationUp,
+        2 => Field::Spin,
+        3 => Field::NonSpin,
+        4 => Field::DownwardEnergy,
+        5 => Field::RegulationDown,
+        6 => Field::Requirement,
+        _ => Field::Mec,
     }
-    if word == 1 {
-        return Field::RegulationUp;
-    }
-    if word == 2 {
-        return Field::Spin;
-    }
-    if word == 3 {
-        return Field::NonSpin;
-    }
-    if word == 4 {
-        return Field::DownwardEnergy;
-    }
-    if word == 5 {
-        return Field::RegulationDown;
-    }
-    if word == 6 {
-        return Field::Requirement;
-    }
-    Field::Mec
 }
 
 // A word of the interval pairs.
@@ -143,12 +116,14 @@ fn interval_field(word: usize) -> Field
 {
     let which = word / 2 + 1;
     if word % 2 == 0 {
-        return Field::IntervalQuantity { which };
+        Field::IntervalQuantity { which }
+    } else {
+        Field::IntervalPrice { which }
     }
-    Field::IntervalPrice { which }
 }
 
 // A word of an hour.
+#[tactic(auto, unfolding(crate::specs::Locating::hour_field))]
 fn hour_field(load: usize, word: usize) -> Field
     requires { load < 4294967296 }
     ensures { result ≡ hour_field load word }
@@ -175,6 +150,7 @@ fn hour_ending(behind: usize, size: usize) -> usize
 }
 
 // Word `word` of the body of entry k, counted from its own start, with so many load points and coordinators.
+#[tactic(auto, unfolding(crate::specs::Locating::in_body))]
 fn in_body(k: usize, load: usize, count: usize, word: usize) -> Place
     requires { (k < 4294967296) × ((load < 4294967296) × (count < 4294967296)) }
     ensures { result ≡ in_body k load count word }
@@ -208,10 +184,7 @@ fn holds(start: usize, size: usize, at: usize) -> bool
     requires { (start < 4294967296) × (size < 4294967296) }
     ensures { result ≡ (leb start at && ltb at (start + size)) }
 {
-    if at < start {
-        return false;
-    }
-    at < start + size
+    start <= at && at < start + size
 }
 
 // Of n entries the first whose body holds the word; n where none does.
@@ -220,16 +193,14 @@ fn holder(file: &[u8], n: usize, at: usize) -> usize
     ensures found { (result ≡ holder_from file.now at 0 n) × (result ≤ n) }
     ensures starts_before { (result ≡ n → ⊥) → start_within file.now result ≤ at }
 {
-    let mut k: usize = 0;
-    while k < n {
+    for k in 0..n {
         let start = word(file, 4 + 3 * k + 1) as usize;
         let size = word(file, 4 + 3 * k + 2) as usize;
         if holds(start, size, at) {
             return k;
         }
-        k += 1;
     }
-    k
+    n
 }
 
 // The place of a word of a file.

@@ -6,5 +6,5 @@ use Rattle.hour.proofs.demand_sum.Given as goal
 abbrev pub invariant-loop-i : goal.invariant-loop-i
 invariant-loop-i l = record {
   added : l.sum ≡ total (words_from l.body l.from l.i);
-  within : l.sum ≤ 4294967295 * l.i
+  within : l.sum ≤ 4294967295 * l.i;
 }

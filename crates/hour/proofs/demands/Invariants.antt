@@ -10,5 +10,5 @@ abbrev pub invariant-loop-i : goal.invariant-loop-i
 invariant-loop-i l = record {
   added : l.running ≡ total (words_from l.body l.from l.i);
   within : l.running ≤ most_demand;
-  rest : demands_rule l.start l.body l.from l.count ≡ scan (demand_rule_at l.start l.body l.from) l.i (l.count - l.i)
+  rest : demands_rule l.start l.body l.from l.count ≡ scan (demand_rule_at l.start l.body l.from) l.i (l.count - l.i);
 }

@@ -1,4 +1,4 @@
-use Rattle.std.proofs.Common.{sym, ◌∙◌}
+use Rattle.std.proofs.Common.{sym}
 use native.Mathlib.Nat.{sub-zero}
 use Rattle.verdict.proofs.First.{handed_on, loop_next, loop_stop, loop_done}
 use Rattle.hour.specs.Check.{interval_rule_at, intervals_rule}

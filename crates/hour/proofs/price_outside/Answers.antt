@@ -1,4 +1,4 @@
-use Rattle.std.proofs.Common.{◌≡◌, ℕ, suc, ◌+◌, ◌-◌, ◌*◌, ◌%◌, ◌<◌, ◌≤◌, Bool, true, false, cond, ◌||◌, leb, nat_abs, sym, refl, ap, ◌∙◌, ap₂, arith, rules, le-leb}
+use Rattle.std.proofs.Common.{◌≡◌, ℕ, suc, ◌+◌, ◌-◌, ◌*◌, ◌%◌, ◌<◌, ◌≤◌, Bool, true, false, cond, ◌||◌, leb, nat_abs, sym, refl, ap, ◌∙◌, ap₂, arith, le-leb}
 use mathlib.Core.Logic.{dite}
 use native.Mathlib.Decide.{dec_lt, dec_le}
 use lib.Bits.{bit_and}
@@ -7,8 +7,7 @@ use Rattle.words.specs.Word.{signed_of}
 use Rattle.words.proofs.Halves.{low, high}
 use Rattle.limits.specs.Ranges.{most_market_price}
 use Rattle.hour.specs.Layout.{missing}
-use Rattle.hour.proofs.price_outside.Statement.{statement}
-use Rattle.hour.proofs.price_outside.Tie as tie
+use Rattle.hour.proofs.price_outside.Goals as goal
 
 -- what is within its range by either of two tests
 either : (first second : Bool) → bit_and (cond first 0 1) (cond second 0 1) ≡ cond (first || second) 0 1
@@ -34,14 +33,10 @@ higher price fits =
     let z : 2147483648 ≤ price = omega (arith, l) in
     rw (high price z fits) (same_test up most (suc (4294967295 - price)) most_market_price (λ h. omega (arith, h)) (λ h. omega (arith, h))))
 
-returns : tie.Need-returns
+pub returns : goal.returns
 returns c =
     let price = c.args.price in
     let up = c.wrapping_add_u32-higher in
     ap₂ bit_and c.present.ensures c.outside.ensures
     ∙ either (missing price) (leb up.result (2 * most_market_price))
-    ∙ ap (λ t. cond (missing price || t) 0 1) (ap (λ n. leb n (2 * most_market_price)) up.ensures ∙ higher price (omega arith))
-
-pub price_outside_spec : {M : Type 1} → statement M
-price_outside_spec =
-    tie.close (tie.spec (λ c κs. search rules) (λ c κs. search rules) (λ c. search rules) (λ c κs. search rules) returns)
+    ∙ ap (λ t. cond (missing price || t) 0 1) (ap (λ n. leb n (2 * most_market_price)) up.ensures.value ∙ higher price (omega arith))

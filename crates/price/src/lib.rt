@@ -56,17 +56,16 @@ impl Sums {
 
     // One interval more: a missing price leaves its quantity out too.
     #[tactic(auto, unfolding(crate::specs::Sums::with_raised))]
-    pub fn with_interval(self, quantity: u32, price: u32) -> Sums
+    pub fn with_interval(mut self, quantity: u32, price: u32) -> Sums
         requires value_fits { self.value.0 + 4294967295 * quantity < 2 ^ 64 }
         requires quantity_and_count_fit { (self.quantity.0 + quantity < 2 ^ 32) × (self.count + 1 < 2 ^ 32) }
         ensures { result ≡ with_raised self quantity price }
     {
         let raised = RaisedPrice(price.wrapping_add(limits::MISSING_PRICE));
-        Sums {
-            value: self.value + Quantity(quantity).at_raised_price(raised),
-            quantity: self.quantity + Quantity(hour::counted(quantity, price)),
-            count: self.count + hour::present(price),
-        }
+        self.value = self.value + Quantity(quantity).at_raised_price(raised);
+        self.quantity = self.quantity + Quantity(hour::counted(quantity, price));
+        self.count += hour::present(price);
+        self
     }
 
     #[tactic(auto, unfolding(crate::specs::Sums::average_from))]

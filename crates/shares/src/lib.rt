@@ -119,8 +119,7 @@ pub struct Carried {
 }
 
 impl Carried {
-    // So many demands, T in all, are still to come.
-    pub fn begin(amount: i64, whole: u32, count: usize) -> Carried
+    fn begin(amount: i64, whole: u32, count: usize) -> Carried
         requires { (whole ≤ most_demand) × (nat_abs amount * whole < 2 ^ 63) }
         ensures { (Begun result) × ((result.amount ≡ amount) × ((result.whole ≡ whole) × (result.running ≡ 0))) }
     {
@@ -134,7 +133,7 @@ impl Carried {
     }
 
     // One rounding a coordinator: the one up to the coordinator before is carried on.
-    pub fn charge(&mut self, demand: u32) -> i64
+    fn charge(&mut self, demand: u32) -> i64
         requires { (Begun self.old) × (self.old.running + demand ≤ self.old.whole) }
         ensures charged { result ≡ up_to self.old.amount self.old.whole (self.old.running + demand) -ℤ self.old.before }
         ensures carried_on { self.new ≡ carried_on self.old demand }

@@ -1,12 +1,17 @@
 -- The sharing call (docs/RULES.md, section 11), over a table of rows, each a coordinator number and a demand: what it refuses, and the charges afterwards.
-use Rattle.std.specs.Prelude.{ℕ, ◌&&◌, List, ◌≡◌, leb, ℤ, length}
+use Rattle.std.specs.Prelude.{ℕ, ◌&&◌, List, map, ◌≡◌, leb, ℤ, length}
 use Rattle.verdict.specs.Verdict.{Verdict}
 use Rattle.verdict.specs.declared.Refusal.TheVariants.{BadLength}
 use Rattle.verdict.specs.First.{rule◌else◌then◌}
 use Rattle.limits.specs.Ranges.{most_coordinators}
 use Rattle.columns.specs.Columns.{columns_rule, charges_after}
-use Rattle.columns.specs.declared.Row.{Row}
-use Rattle.columns.specs.Rows.{coordinator_column, demand_column}
+use Rattle.sharing.specs.declared.Row.{Row}
+
+abbrev pub coordinator_column : List Row → List ℕ
+coordinator_column = map (λ (row : Row). row.coordinator)
+
+abbrev pub demand_column : List Row → List ℕ
+demand_column = map (λ (row : Row). row.demand)
 
 -- how many rows a caller may hold by value
 abbrev pub rows_by_value : ℕ

@@ -6,9 +6,8 @@ use lib.ListN.{length}
 use Rattle.verdict.specs.Verdict.{number_of}
 use Rattle.shares.specs.Shares.{sum}
 use Rattle.shares.proofs.AddsUp.{adds_up}
-use Rattle.columns.specs.declared.Row.{Row}
-use Rattle.columns.specs.Rows.{demand_column}
-use Rattle.sharing.specs.Rows.{share_of}
+use Rattle.sharing.specs.declared.Row.{Row}
+use Rattle.sharing.specs.Rows.{demand_column, share_of}
 use Rattle.sharing_theorems.specs.Charged.{row_charges}
 use Rattle.sharing_theorems.proofs.Charges.{accepted, charged}
 

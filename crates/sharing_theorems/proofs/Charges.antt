@@ -14,9 +14,8 @@ use Rattle.limits.specs.Ranges.{most_coordinators}
 use Rattle.shares.specs.Shares.{shares}
 use Rattle.shares.proofs.Length.{shares_length}
 use Rattle.columns.proofs.Accepted.{Accepted, columns_accepted}
-use Rattle.columns.specs.declared.Row.{Row}
-use Rattle.columns.specs.Rows.{coordinator_column, demand_column}
-use Rattle.sharing.specs.Rows.{share_of}
+use Rattle.sharing.specs.declared.Row.{Row}
+use Rattle.sharing.specs.Rows.{coordinator_column, demand_column, share_of}
 use Rattle.sharing_theorems.specs.Charged.{charges_left, row_charges}
 
 module _ (amount : ℤ) (rows : List Row) where

@@ -9,9 +9,8 @@ use Rattle.verdict.specs.Verdict.{number_of}
 use Rattle.exact.specs.Total.{total}
 use Rattle.shares.specs.Shares.{shares, sum, merged_at}
 use Rattle.shares.proofs.Merged.{merged}
-use Rattle.columns.specs.declared.Row.{Row}
-use Rattle.columns.specs.Rows.{coordinator_column, demand_column}
-use Rattle.sharing.specs.Rows.{share_of}
+use Rattle.sharing.specs.declared.Row.{Row}
+use Rattle.sharing.specs.Rows.{coordinator_column, demand_column, share_of}
 use Rattle.sharing_theorems.specs.Charged.{row_charges, merged_row, merged_rows}
 use Rattle.sharing_theorems.proofs.Charges.{charged}
 

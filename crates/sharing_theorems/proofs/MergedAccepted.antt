@@ -19,9 +19,8 @@ use Rattle.shares.proofs.Merged.{merged_length, total_merged}
 use Rattle.shares.proofs.Rising.{RisesAt, merged_rises}
 use Rattle.columns.specs.Columns.{row_rule, coordinator_above, row_rule_at, rows_rule, charges_rule, columns_rule}
 use Rattle.columns.proofs.Accepted.{rows_total}
-use Rattle.columns.specs.declared.Row.{Row}
-use Rattle.columns.specs.Rows.{coordinator_column, demand_column}
-use Rattle.sharing.specs.Rows.{share_of}
+use Rattle.sharing.specs.declared.Row.{Row}
+use Rattle.sharing.specs.Rows.{coordinator_column, demand_column, share_of}
 use Rattle.sharing_theorems.specs.Charged.{merged_row, merged_rows, Mergeable}
 use Rattle.sharing_theorems.proofs.Merged.{demands_merged, coordinators_merged}
 

@@ -8,9 +8,8 @@ use Rattle.verdict.specs.Verdict.{number_of}
 use Rattle.exact.proofs.Magnitude.{abs_neg}
 use Rattle.shares.proofs.Turned.{turned}
 use Rattle.columns.specs.Columns.{columns_rule}
-use Rattle.columns.specs.declared.Row.{Row}
-use Rattle.columns.specs.Rows.{demand_column}
-use Rattle.sharing.specs.Rows.{share_of}
+use Rattle.sharing.specs.declared.Row.{Row}
+use Rattle.sharing.specs.Rows.{demand_column, share_of}
 use Rattle.sharing_theorems.specs.Charged.{row_charges}
 use Rattle.sharing_theorems.proofs.Charges.{charged}
 

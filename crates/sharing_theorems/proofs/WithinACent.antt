@@ -9,9 +9,8 @@ use Rattle.verdict.specs.Verdict.{number_of}
 use Rattle.exact.specs.Total.{total}
 use Rattle.shares.specs.Shares.{apart}
 use Rattle.shares.proofs.WithinACent.{within_a_cent}
-use Rattle.columns.specs.declared.Row.{Row}
-use Rattle.columns.specs.Rows.{demand_column}
-use Rattle.sharing.specs.Rows.{share_of}
+use Rattle.sharing.specs.declared.Row.{Row}
+use Rattle.sharing.specs.Rows.{demand_column, share_of}
 use Rattle.sharing_theorems.specs.Charged.{row_charges}
 use Rattle.sharing_theorems.proofs.Charges.{charged}
 

@@ -4,9 +4,8 @@ use Rattle.exact.specs.Total.{total}
 use Rattle.limits.specs.Ranges.{largest_number}
 use Rattle.shares.specs.Shares.{merged_at}
 use Rattle.columns.specs.Columns.{coordinator_above, charges_after}
-use Rattle.columns.specs.declared.Row.{Row}
-use Rattle.columns.specs.Rows.{coordinator_column, demand_column}
-use Rattle.sharing.specs.Rows.{share_of}
+use Rattle.sharing.specs.declared.Row.{Row}
+use Rattle.sharing.specs.Rows.{coordinator_column, demand_column, share_of}
 
 -- the lent charges after the call, as `SharedRows` promises them
 abbrev pub charges_left : ℤ → List Row → List ℤ → List ℤ

@@ -11,6 +11,5 @@ returns c =
     let amount = to_z-of_z w64 c.args.amount c.ranges.amount in
     let held : length c.args.rows ≡ rows_by_value = search rules in
     let lent : c.min-lent.result ≡ min c.args.n (length c.args.rows) = omega arith in
-    let same : take c.min-lent.result c.args.rows ≡ take c.args.n c.args.rows =
-        rw lent (take_min c.args.n c.args.rows) in
+    let same : take c.min-lent.result c.args.rows ≡ take c.args.n c.args.rows = rw lent (take_min c.args.n c.args.rows) in
     rw (amount, same) at c.share.ensures

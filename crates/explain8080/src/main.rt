@@ -32,6 +32,25 @@ struct Hour<'a> {
     charges: &'a [i64],
 }
 
+impl<'a> Hour<'a> {
+    // The charge of coordinator i. A settled statement has it.
+    fn charge(self, i: usize) -> i64 {
+        self.charges.get(i).copied().unwrap_or(0)
+    }
+
+    fn totals(self) -> Totals {
+        Totals {
+            on: self.on,
+            off: self.off,
+            down: self.down,
+            charges: self
+                .charges
+                .iter()
+                .fold(0, |sum: i64, charge| sum.saturating_add(*charge)),
+        }
+    }
+}
+
 // An area: its number, what its day is settled under, its body, and its numbers in the statement.
 #[derive(Clone, Copy)]
 struct Area<'a> {
@@ -115,10 +134,10 @@ impl<'a> Area<'a> {
 
     // The charges of a coordinator in all hours; 0 where it is none of the area's.
     fn charges_of(self, coordinator: u32) -> i64 {
-        let mut total = 0;
+        let mut total: i64 = 0;
         if let Some(i) = self.position(coordinator) {
             for h in 0..limits::DAY_HOURS {
-                total = reading::sum(total, reading::number(self.hour(h).charges, i));
+                total = total.saturating_add(self.hour(h).charge(i));
             }
         }
         total
@@ -178,6 +197,7 @@ fn all_areas<'a>(file: &'a [u8], statement: &'a [i64]) -> Areas<'a>
 
 // ---- totals
 
+// An amount is within limits::MOST_AMOUNT, and a statement has at most settlement::MOST_NUMBERS: no sum of them comes near its bound.
 #[derive(Clone, Copy, Default)]
 struct Totals {
     on: i64,
@@ -189,10 +209,10 @@ struct Totals {
 impl Totals {
     fn and(self, others: Totals) -> Totals {
         Totals {
-            on: reading::sum(self.on, others.on),
-            off: reading::sum(self.off, others.off),
-            down: reading::sum(self.down, others.down),
-            charges: reading::sum(self.charges, others.charges),
+            on: self.on.saturating_add(others.on),
+            off: self.off.saturating_add(others.off),
+            down: self.down.saturating_add(others.down),
+            charges: self.charges.saturating_add(others.charges),
         }
     }
 }
@@ -204,20 +224,6 @@ impl fmt::Display for Totals {
             "{}\t{}\t{}\t{}",
             self.on, self.off, self.down, self.charges
         )
-    }
-}
-
-impl<'a> Hour<'a> {
-    fn totals(self) -> Totals {
-        Totals {
-            on: self.on,
-            off: self.off,
-            down: self.down,
-            charges: self
-                .charges
-                .iter()
-                .fold(0, |sum, charge| reading::sum(sum, *charge)),
-        }
     }
 }
 
@@ -356,12 +362,12 @@ fn show_hour_charges(rt: &impl Print, area: Area<'_>, h: usize) -> io::Result<()
     requires { h < day_hours }
 {
     let number = area.number;
-    let charges = area.hour(h).charges;
+    let hour = area.hour(h);
     let from = area.hour_start(h) + 8 + 24 * area.load_points();
     for i in 0..area.coordinators() {
         let coordinator = area.coordinator(i);
         let demand = words::word(area.body, from + i);
-        let charge = reading::number(charges, i);
+        let charge = hour.charge(i);
         println!(rt;
             "charge\t{number}\t{coordinator}\t{}\t{demand}\t{charge}",
             h + 1
@@ -406,9 +412,9 @@ fn show_day_totals(rt: &impl Print, areas: Areas<'_>) -> io::Result<()> {
 }
 
 fn coordinator_total(areas: Areas<'_>, coordinator: u32) -> i64 {
-    let mut total = 0;
+    let mut total: i64 = 0;
     for area in areas {
-        total = reading::sum(total, area.charges_of(coordinator));
+        total = total.saturating_add(area.charges_of(coordinator));
     }
     total
 }

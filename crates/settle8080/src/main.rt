@@ -32,6 +32,7 @@ fn body_at(file: &[u8], k: usize) -> &[u8]
 }
 
 // Prints the charges of an hour, which stand behind its amounts, and adds them to the sum of those before. A charge of 0 is not printed.
+// A charge is within limits::MOST_AMOUNT, and a statement has at most settlement::MOST_NUMBERS: the sum does not come near its bound.
 fn with_hour(
     rt: &impl Print,
     before: i64,
@@ -45,7 +46,7 @@ fn with_hour(
         if *charge != 0 {
             let coordinator = locating::word(body, 7 + i);
             println!(rt; "{area} {coordinator} {hour} {charge}")?;
-            total = reading::sum(total, *charge);
+            total = total.saturating_add(*charge);
         }
     }
     Ok(total)

@@ -3,7 +3,8 @@
 // of the functions that settled them.
 #![tactic(auto)]
 
-ghost use Rattle.std.specs.Prelude.{◌≡◌, ◌+◌, ◌*◌, ◌≤◌, ◌<◌, length};
+ghost use Rattle.std.specs.Prelude.{◌≡◌, ◌+◌, ◌-◌, ◌*◌, ◌≤◌, ◌<◌, length};
+ghost use Rattle.std.specs.Iterator.{at_most};
 ghost use Rattle.words.specs.Word.{word_at};
 ghost use Rattle.limits.specs.Ranges.{day_hours, most_coordinators, proved_points};
 ghost use Rattle.hour.specs.Layout.{hour_words};
@@ -11,459 +12,193 @@ ghost use Rattle.body.specs.Layout.{points_of, coordinators_of, hour_at};
 ghost use Rattle.body.specs.Kept.{Sound};
 ghost use Rattle.contents.specs.File.{areas_of};
 ghost use Rattle.surcharge.specs.Ranges.{TermsKept};
-ghost use Rattle.amounts.specs.Ranges.{AtHour};
 ghost use Rattle.settlement.specs.SoundFile.{SoundFile};
 
 use locating::{Field, Place};
-use std::io;
-use surcharge::{Day, Terms};
+use std::{fmt, io};
+use surcharge::Terms;
 use verdict::Refusal;
 
-// ---- the parts of a settled file
+// ---- the parts of a settled day
 
-// The number of area k.
-fn area_number(file: &[u8], k: usize) -> u32
-    requires { (SoundFile file.now) × (k < areas_of file.now) }
-{
-    words::word(file, 4 + 3 * k)
+// The numbers of an hour in the statement: its amounts as they are shown there, and the charges behind them.
+#[derive(Clone, Copy)]
+struct Hour<'a> {
+    on: i64,
+    off: i64,
+    down: i64,
+    surcharge: i64,
+    credit: i64,
+    charges: &'a [i64],
 }
 
-// The body of area k.
-fn area_body(file: &[u8], k: usize) -> &[u8]
-    requires { (SoundFile file.now) × (k < areas_of file.now) }
-    ensures { Sound proved_points result.now }
-{
-    contents::body_at(file, k)
-}
+impl<'a> Hour<'a> {
+    // The charge of coordinator i. A settled statement has it.
+    fn charge(self, i: usize) -> i64 {
+        self.charges.get(i).copied().unwrap_or(0)
+    }
 
-// Word i of a body's head.
-fn head_word(body: &[u8], i: usize) -> u32
-    requires { (Sound proved_points body.now) × (i < 7) }
-    ensures { result ≡ word_at body.now i }
-{
-    words::word(body, i)
-}
-
-// K of a body.
-fn coordinators(body: &[u8]) -> usize
-    requires { Sound proved_points body.now }
-    ensures { (result ≡ coordinators_of body.now) × (result ≤ most_coordinators) }
-{
-    head_word(body, 6) as usize
-}
-
-// L of a body.
-fn load_points(body: &[u8]) -> usize
-    requires { Sound proved_points body.now }
-    ensures { (result ≡ points_of body.now) × (result ≤ proved_points) }
-{
-    head_word(body, 5) as usize
-}
-
-// Where hour h of a body starts.
-fn hour_start(body: &[u8], h: usize) -> usize
-    requires { (Sound proved_points body.now) × (h < day_hours) }
-    ensures value { result ≡ hour_at body.now h }
-    ensures body_in_bounds { 4 * (result + hour_words (points_of body.now) (coordinators_of body.now)) ≤ length body.now }
-{
-    let load = load_points(body);
-    let count = coordinators(body);
-    7 + count + h * (8 + 24 * load + count)
-}
-
-// What an area's day is settled under.
-fn terms_of(peak: u32, body: &[u8]) -> Terms
-    requires { Sound proved_points body.now }
-    ensures { TermsKept result }
-{
-    Terms {
-        peak,
-        days: head_word(body, 2),
+    fn totals(self) -> Totals {
+        Totals {
+            on: self.on,
+            off: self.off,
+            down: self.down,
+            charges: self
+                .charges
+                .iter()
+                .fold(0, |sum: i64, charge| sum.saturating_add(*charge)),
+        }
     }
 }
 
-// ---- the parts of its statement
-
-// The numbers of area k, behind those of the areas before it.
-fn area_block<'a>(file: &[u8], k: usize, statement: &'a [i64]) -> &'a [i64]
-    requires { (SoundFile file.now) × (k < areas_of file.now) }
-{
-    let mut at: usize = 0;
-    for before in 0..k {
-        at += statement::area_numbers(coordinators(area_body(file, before)));
-    }
-    reading::part(statement, at)
-}
-
-// The numbers of hour h of an area with so many coordinators.
-fn hour_block(block: &[i64], count: usize, h: usize) -> &[i64]
-    requires { (count ≤ most_coordinators) × (h < day_hours) }
-{
-    reading::part(block, h * statement::hour_numbers(count))
-}
-
-// The charges of an hour stand behind its amounts.
-fn hour_charges(block: &[i64], count: usize, h: usize) -> &[i64]
-    requires { (count ≤ most_coordinators) × (h < day_hours) }
-{
-    reading::part(hour_block(block, count, h), statement::AMOUNTS_SHOWN)
-}
-
-// ---- the day and its areas
-
-fn show_day(rt: &impl Print, file: &[u8]) -> io::Result<()>
-    requires { 16 ≤ length file.now }
-{
-    show::text(rt, b"header\tday\ttrading day\tareas\tpeak word\nday")?;
-    show::number_field(rt, words::word(file, 1) as i64)?;
-    show::number_field(rt, words::word(file, 2) as i64)?;
-    show::number_field(rt, words::word(file, 3) as i64)?;
-    show::end(rt)
-}
-
-fn area_header(rt: &impl Print) -> io::Result<()> {
-    show::text(
-        rt,
-        b"header\tarea\tarea\tkind\tflag\td\thub price A (cents)\thub price B (cents)\tgreater hub price (cents)",
-    )?;
-    show::text(
-        rt,
-        b"\tload points\tcoordinators\tday tier\tM (0.001 MW)\tm (quarters)\n",
-    )
-}
-
-// P of a body.
-fn greater_hub_price(body: &[u8]) -> i32
-    requires { Sound proved_points body.now }
-{
-    let hub = amounts::hub_price(body);
-    hub.0
-}
-
-// The words of an area as the file has them, up to the hub prices and the greater one.
-fn show_area_words(rt: &impl Print, area: u32, body: &[u8]) -> io::Result<()>
-    requires { Sound proved_points body.now }
-{
-    show::text(rt, b"area")?;
-    show::number_field(rt, area as i64)?;
-    show::number_field(rt, head_word(body, 0) as i64)?;
-    show::number_field(rt, head_word(body, 1) as i64)?;
-    show::number_field(rt, head_word(body, 2) as i64)?;
-    show::signed_word_field(rt, words::signed(head_word(body, 3)))?;
-    show::signed_word_field(rt, words::signed(head_word(body, 4)))?;
-    show::signed_word_field(rt, greater_hub_price(body))
-}
-
-fn show_area(rt: &impl Print, area: u32, terms: Terms, body: &[u8]) -> io::Result<()>
-    requires { (TermsKept terms) × (Sound proved_points body.now) }
-{
-    let day = amounts::day_facts(terms, body);
-    let most = day.most;
-    show_area_words(rt, area, body)?;
-    show::count_field(rt, load_points(body))?;
-    show::count_field(rt, coordinators(body))?;
-    show::number_field(rt, day.tier as i64)?;
-    show::number_field(rt, most.0 as i64)?;
-    show::number_field(rt, explaining::multiplier(day.tier) as i64)?;
-    show::end(rt)
-}
-
-fn show_areas(rt: &impl Print, file: &[u8], n: usize, peak: u32) -> io::Result<()>
-    requires { (SoundFile file.now) × (n ≡ areas_of file.now) }
-{
-    area_header(rt)?;
-    for k in 0..n {
-        let body = area_body(file, k);
-        show_area(rt, area_number(file, k), terms_of(peak, body), body)?;
-    }
-    Ok(())
-}
-
-// ---- the hours
-
-fn hour_header(rt: &impl Print) -> io::Result<()> {
-    show::text(
-        rt,
-        b"header\thour\tarea\thour ending\tU (0.001 MW)\tQ (0.001 MW)\ttier\tpeak\tprice needed\tprice ($0.0001)",
-    )?;
-    show::text(
-        rt,
-        b"\tintervals with a price\tm (quarters)\tS (cents)\tcredit (cents)\ton-peak (cents)\toff-peak (cents)",
-    )?;
-    show::text(
-        rt,
-        b"\tW (0.001 MW)\tMEC ($0.0001)\tdownward (cents)\tA (cents)\tT (0.001 MWh)\n",
-    )
-}
-
-// U, Q, the tier, whether it is a peak hour, and whether the price is needed; the price and its count; m.
-fn show_shortage(
-    rt: &impl Print,
+// An area: its number, what its day is settled under, its body, and its numbers in the statement.
+#[derive(Clone, Copy)]
+struct Area<'a> {
+    number: u32,
     terms: Terms,
-    day: Day,
-    body: &[u8],
-    h: usize,
-    at: usize,
-) -> io::Result<()>
-    requires { AtHour terms day body.now h at }
-{
-    let shortage = explaining::hour_shortage(terms, day, body, h, at);
-    let upward = shortage.upward;
-    let requirement = shortage.requirement;
-    show::number_field(rt, upward.0 as i64)?;
-    show::number_field(rt, requirement.0 as i64)?;
-    show::number_field(rt, shortage.tier as i64)?;
-    show::yes_field(rt, shortage.peak)?;
-    show::yes_field(rt, shortage.needed)?;
-    show_price(rt, terms, day, body, h, at)?;
-    show::number_field(rt, shortage.quarters as i64)
+    body: &'a [u8],
+    block: &'a [i64],
+    ghost kept: { TermsKept terms },
+    ghost sound: { Sound proved_points body.now },
 }
 
-fn show_price(
-    rt: &impl Print,
-    terms: Terms,
-    day: Day,
-    body: &[u8],
-    h: usize,
-    at: usize,
-) -> io::Result<()>
-    requires { AtHour terms day body.now h at }
-{
-    let hour = explaining::hour_price(terms, day, body, h, at);
-    match hour.price {
-        Some(price) => show::signed_word_field(rt, price.0)?,
-        None => show::field(rt, b"none")?,
+impl<'a> Area<'a> {
+    // L of the body.
+    fn load_points(self) -> usize
+        ensures { (result ≡ points_of self.entry.body.now) × (result ≤ proved_points) }
+    {
+        words::word(self.body, 5) as usize
     }
-    show::number_field(rt, hour.count as i64)
-}
 
-// S, the credit, the on-peak and the off-peak amount, as the statement shows them.
-fn show_upward(rt: &impl Print, numbers: &[i64]) -> io::Result<()> {
-    show::number_field(rt, reading::number(numbers, 3))?;
-    show::number_field(rt, reading::number(numbers, 4))?;
-    show::number_field(rt, reading::number(numbers, 0))?;
-    show::number_field(rt, reading::number(numbers, 1))
-}
-
-// W, MEC, the downward amount, A and T.
-fn show_downward(
-    rt: &impl Print,
-    terms: Terms,
-    day: Day,
-    body: &[u8],
-    h: usize,
-    at: usize,
-    numbers: &[i64],
-) -> io::Result<()>
-    requires { AtHour terms day body.now h at }
-{
-    let quantity = explaining::hour_downward(terms, day, body, h, at);
-    let amount = explaining::hour_amount(terms, day, body, h, at);
-    show::number_field(rt, quantity.0 as i64)?;
-    show::signed_word_field(rt, explaining::hour_mec(terms, day, body, h, at))?;
-    show::number_field(rt, reading::number(numbers, 2))?;
-    show::number_field(rt, amount.0)?;
-    show::number_field(rt, explaining::hour_demand(terms, day, body, h, at) as i64)
-}
-
-fn show_hour(
-    rt: &impl Print,
-    area: u32,
-    terms: Terms,
-    day: Day,
-    body: &[u8],
-    h: usize,
-    numbers: &[i64],
-) -> io::Result<()>
-    requires { AtHour terms day body.now h (hour_at body.now h) }
-{
-    let at = hour_start(body, h);
-    show::text(rt, b"hour")?;
-    show::number_field(rt, area as i64)?;
-    show::count_field(rt, h + 1)?;
-    show_shortage(rt, terms, day, body, h, at)?;
-    show_upward(rt, numbers)?;
-    show_downward(rt, terms, day, body, h, at, numbers)?;
-    show::end(rt)
-}
-
-fn show_area_hours(
-    rt: &impl Print,
-    area: u32,
-    terms: Terms,
-    body: &[u8],
-    block: &[i64],
-) -> io::Result<()>
-    requires { (TermsKept terms) × (Sound proved_points body.now) }
-{
-    let day = amounts::day_facts(terms, body);
-    let count = coordinators(body);
-    for h in 0..limits::DAY_HOURS {
-        show_hour(rt, area, terms, day, body, h, hour_block(block, count, h))?;
+    // K of the body.
+    fn coordinators(self) -> usize
+        ensures { (result ≡ coordinators_of self.entry.body.now) × (result ≤ most_coordinators) }
+    {
+        words::word(self.body, 6) as usize
     }
-    Ok(())
-}
 
-fn show_hours(
-    rt: &impl Print,
-    file: &[u8],
-    n: usize,
-    peak: u32,
-    statement: &[i64],
-) -> io::Result<()>
-    requires { (SoundFile file.now) × (n ≡ areas_of file.now) }
-{
-    hour_header(rt)?;
-    for k in 0..n {
-        let body = area_body(file, k);
-        let block = area_block(file, k, statement);
-        show_area_hours(rt, area_number(file, k), terms_of(peak, body), body, block)?;
+    // The number of coordinator i.
+    fn coordinator(self, i: usize) -> u32
+        requires { i < coordinators_of self.body.now }
+    {
+        words::word(self.body, 7 + i)
     }
-    Ok(())
-}
 
-// ---- the intervals
-
-fn interval_header(rt: &impl Print) -> io::Result<()> {
-    show::text(
-        rt,
-        b"header\tinterval\tarea\thour ending\tinterval\tquantity (0.001 MWh)\tprice ($0.0001)\n",
-    )
-}
-
-fn show_interval(
-    rt: &impl Print,
-    area: u32,
-    h: usize,
-    i: usize,
-    quantity: u32,
-    price: u32,
-) -> io::Result<()>
-    requires { (h < day_hours) × (i < 4294967296) }
-{
-    show::text(rt, b"interval")?;
-    show::number_field(rt, area as i64)?;
-    show::count_field(rt, h + 1)?;
-    show::count_field(rt, i + 1)?;
-    show::number_field(rt, quantity as i64)?;
-    if price == limits::MISSING_PRICE {
-        show::field(rt, b"missing")?;
-        return show::end(rt);
+    // Which coordinator has the number.
+    fn position(self, coordinator: u32) -> Option<usize> {
+        for i in 0..self.coordinators() {
+            if self.coordinator(i) == coordinator {
+                return Some(i);
+            }
+        }
+        None
     }
-    show::signed_word_field(rt, words::signed(price))?;
-    show::end(rt)
-}
 
-fn show_hour_intervals(rt: &impl Print, area: u32, body: &[u8], h: usize) -> io::Result<()>
-    requires { (Sound proved_points body.now) × (h < day_hours) }
-{
-    let from = hour_start(body, h) + 8;
-    let count = 12 * load_points(body);
-    for i in 0..count {
-        let quantity = words::word(body, from + 2 * i);
-        let price = words::word(body, from + 2 * i + 1);
-        show_interval(rt, area, h, i, quantity, price)?;
+    // Where hour h of the body starts.
+    #[tactic(auto, unfolding(body::specs::Layout::hour_start))]
+    fn hour_start(self, h: usize) -> usize
+        requires { h < day_hours }
+        ensures value { result ≡ hour_at self.entry.body.now h }
+        ensures body_in_bounds { 4 * (result + hour_words (points_of self.entry.body.now) (coordinators_of self.entry.body.now)) ≤ length self.entry.body.now }
+    {
+        let load = self.load_points();
+        let count = self.coordinators();
+        7 + count + h * (8 + 24 * load + count)
     }
-    Ok(())
-}
 
-fn show_area_intervals(rt: &impl Print, area: u32, body: &[u8]) -> io::Result<()>
-    requires { Sound proved_points body.now }
-{
-    for h in 0..limits::DAY_HOURS {
-        show_hour_intervals(rt, area, body, h)?;
+    // The numbers of hour h in the statement. A settled statement has them.
+    fn hour(self, h: usize) -> Hour<'a>
+        requires { h < day_hours }
+    {
+        let each = statement::hour_numbers(self.coordinators());
+        let numbers = self.block.get(h * each..(h + 1) * each).unwrap_or(&[]);
+        let (amounts, charges) = numbers.split_first_chunk().unwrap_or((&[0; 5], &[]));
+        let [on, off, down, surcharge, credit] = *amounts;
+        Hour {
+            on,
+            off,
+            down,
+            surcharge,
+            credit,
+            charges,
+        }
     }
-    Ok(())
-}
 
-fn show_intervals(rt: &impl Print, file: &[u8], n: usize) -> io::Result<()>
-    requires { (SoundFile file.now) × (n ≡ areas_of file.now) }
-{
-    interval_header(rt)?;
-    for k in 0..n {
-        show_area_intervals(rt, area_number(file, k), area_body(file, k))?;
+    fn totals(self) -> Totals {
+        let mut totals = Totals::default();
+        for h in 0..limits::DAY_HOURS {
+            totals = totals.and(self.hour(h).totals());
+        }
+        totals
     }
-    Ok(())
-}
 
-// ---- the charges
-
-fn charge_header(rt: &impl Print) -> io::Result<()> {
-    show::text(
-        rt,
-        b"header\tcharge\tarea\tcoordinator\thour ending\tdemand (0.001 MWh)\tcharge (cents)\n",
-    )
-}
-
-fn show_charge(
-    rt: &impl Print,
-    area: u32,
-    coordinator: u32,
-    h: usize,
-    demand: u32,
-    charge: i64,
-) -> io::Result<()>
-    requires { h < day_hours }
-{
-    show::text(rt, b"charge")?;
-    show::number_field(rt, area as i64)?;
-    show::number_field(rt, coordinator as i64)?;
-    show::count_field(rt, h + 1)?;
-    show::number_field(rt, demand as i64)?;
-    show::number_field(rt, charge)?;
-    show::end(rt)
-}
-
-fn show_hour_charges(
-    rt: &impl Print,
-    area: u32,
-    body: &[u8],
-    h: usize,
-    charges: &[i64],
-) -> io::Result<()>
-    requires { (Sound proved_points body.now) × (h < day_hours) }
-{
-    let from = hour_start(body, h) + 8 + 24 * load_points(body);
-    let count = coordinators(body);
-    for i in 0..count {
-        let coordinator = words::word(body, 7 + i);
-        let demand = words::word(body, from + i);
-        show_charge(
-            rt,
-            area,
-            coordinator,
-            h,
-            demand,
-            reading::number(charges, i),
-        )?;
+    // The charges of a coordinator in all hours; 0 where it is none of the area's.
+    fn charges_of(self, coordinator: u32) -> i64 {
+        let mut total: i64 = 0;
+        if let Some(i) = self.position(coordinator) {
+            for h in 0..limits::DAY_HOURS {
+                total = total.saturating_add(self.hour(h).charge(i));
+            }
+        }
+        total
     }
-    Ok(())
 }
 
-fn show_area_charges(rt: &impl Print, area: u32, body: &[u8], block: &[i64]) -> io::Result<()>
-    requires { Sound proved_points body.now }
-{
-    let count = coordinators(body);
-    for h in 0..limits::DAY_HOURS {
-        show_hour_charges(rt, area, body, h, hour_charges(block, count, h))?;
-    }
-    Ok(())
+// The areas of a settled file from area `next` on, and their part of the statement, where each stands behind those before it.
+#[derive(Clone, Copy)]
+struct Areas<'a> {
+    file: &'a [u8],
+    next: usize,
+    statement: &'a [i64],
+    ghost sound: { SoundFile file.now },
 }
 
-fn show_charges(rt: &impl Print, file: &[u8], n: usize, statement: &[i64]) -> io::Result<()>
-    requires { (SoundFile file.now) × (n ≡ areas_of file.now) }
-{
-    charge_header(rt)?;
-    for k in 0..n {
-        let block = area_block(file, k, statement);
-        show_area_charges(rt, area_number(file, k), area_body(file, k), block)?;
+impl<'a> Iterator for Areas<'a> {
+    type Item = Area<'a>;
+
+    ghost remaining = { λ areas. at_most (areas_of areas.file.now - areas.next) };
+
+    fn next(&mut self) -> Option<Area<'a>> {
+        let k = self.next;
+        if words::word(self.file, 2) as usize <= k {
+            return None;
+        }
+        let body = contents::body_at(self.file, k);
+        let terms = Terms {
+            peak: words::word(self.file, 3),
+            days: words::word(body, 2),
+        };
+        let count = words::word(body, 6) as usize;
+        let numbers = statement::area_numbers(count);
+        let (block, others) = self
+            .statement
+            .split_at_checked(numbers)
+            .unwrap_or((&[], &[]));
+        self.next = k + 1;
+        self.statement = others;
+        Some(Area {
+            number: words::word(self.file, 4 + 3 * k),
+            terms,
+            body,
+            block,
+        })
     }
-    Ok(())
+}
+
+fn all_areas<'a>(file: &'a [u8], statement: &'a [i64]) -> Areas<'a>
+    requires { SoundFile file.now }
+{
+    Areas {
+        file,
+        next: 0,
+        statement,
+    }
 }
 
 // ---- totals
 
-#[derive(Clone, Copy)]
+// An amount is within limits::MOST_AMOUNT, and a statement has at most settlement::MOST_NUMBERS: no sum of them comes near its bound.
+#[derive(Clone, Copy, Default)]
 struct Totals {
     on: i64,
     off: i64,
@@ -471,209 +206,245 @@ struct Totals {
     charges: i64,
 }
 
-fn no_totals() -> Totals {
-    Totals {
-        on: 0,
-        off: 0,
-        down: 0,
-        charges: 0,
+impl Totals {
+    fn and(self, others: Totals) -> Totals {
+        Totals {
+            on: self.on.saturating_add(others.on),
+            off: self.off.saturating_add(others.off),
+            down: self.down.saturating_add(others.down),
+            charges: self.charges.saturating_add(others.charges),
+        }
     }
 }
 
-fn both(a: Totals, b: Totals) -> Totals {
-    Totals {
-        on: reading::sum(a.on, b.on),
-        off: reading::sum(a.off, b.off),
-        down: reading::sum(a.down, b.down),
-        charges: reading::sum(a.charges, b.charges),
+impl fmt::Display for Totals {
+    fn fmt<W: fmt::Write>(&self, f: &mut fmt::Formatter<W>) -> fmt::Result {
+        write!(
+            f,
+            "{}\t{}\t{}\t{}",
+            self.on, self.off, self.down, self.charges
+        )
     }
 }
 
-fn sum_of(charges: &[i64], count: usize) -> i64 {
-    let mut total: i64 = 0;
-    for i in 0..count {
-        total = reading::sum(total, reading::number(charges, i));
-    }
-    total
-}
+// ---- the day and its areas
 
-fn hour_totals(block: &[i64], count: usize, h: usize) -> Totals
-    requires { (count ≤ most_coordinators) × (h < day_hours) }
+fn show_day(rt: &impl Print, file: &[u8]) -> io::Result<()>
+    requires { 16 ≤ length file.now }
 {
-    let numbers = hour_block(block, count, h);
-    Totals {
-        on: reading::number(numbers, 0),
-        off: reading::number(numbers, 1),
-        down: reading::number(numbers, 2),
-        charges: sum_of(hour_charges(block, count, h), count),
-    }
+    println!(rt; "header\tday\ttrading day\tareas\tpeak word")?;
+    println!(rt;
+        "day\t{}\t{}\t{}",
+        words::word(file, 1),
+        words::word(file, 2),
+        words::word(file, 3)
+    )
 }
 
-fn area_totals(block: &[i64], count: usize) -> Totals
-    requires { count ≤ most_coordinators }
-{
-    let mut totals = no_totals();
-    for h in 0..limits::DAY_HOURS {
-        totals = both(totals, hour_totals(block, count, h));
-    }
-    totals
+fn show_area(rt: &impl Print, area: Area<'_>) -> io::Result<()> {
+    let body = area.body;
+    let number = area.number;
+    let kind = words::word(body, 0);
+    let flag = words::word(body, 1);
+    let days = words::word(body, 2);
+    let hub_a = words::signed(words::word(body, 3));
+    let hub_b = words::signed(words::word(body, 4));
+    let hub = amounts::hub_price(body).0;
+    let load = area.load_points();
+    let count = area.coordinators();
+    let day = amounts::day_facts(area.terms, body);
+    let tier = day.tier;
+    let most = day.most.0;
+    let quarters = explaining::multiplier(tier);
+    print!(rt; "area\t{number}\t{kind}\t{flag}\t{days}\t{hub_a}\t{hub_b}\t{hub}")?;
+    println!(rt; "\t{load}\t{count}\t{tier}\t{most}\t{quarters}")
 }
 
-fn day_totals(file: &[u8], n: usize, statement: &[i64]) -> Totals
-    requires { (SoundFile file.now) × (n ≡ areas_of file.now) }
-{
-    let mut totals = no_totals();
-    for k in 0..n {
-        let block = area_block(file, k, statement);
-        totals = both(totals, area_totals(block, coordinators(area_body(file, k))));
-    }
-    totals
-}
-
-fn show_totals(rt: &impl Print, totals: Totals) -> io::Result<()> {
-    show::number_field(rt, totals.on)?;
-    show::number_field(rt, totals.off)?;
-    show::number_field(rt, totals.down)?;
-    show::number_field(rt, totals.charges)?;
-    show::end(rt)
-}
-
-fn show_area_totals(rt: &impl Print, file: &[u8], n: usize, statement: &[i64]) -> io::Result<()>
-    requires { (SoundFile file.now) × (n ≡ areas_of file.now) }
-{
-    show::text(
-        rt,
-        b"header\tarea-total\tarea\ton-peak (cents)\toff-peak (cents)\tdownward (cents)\tcharges (cents)\n",
+fn show_areas(rt: &impl Print, areas: Areas<'_>) -> io::Result<()> {
+    print!(rt;
+        "header\tarea\tarea\tkind\tflag\td\thub price A (cents)\thub price B (cents)\tgreater hub price (cents)"
     )?;
-    for k in 0..n {
-        let block = area_block(file, k, statement);
-        let count = coordinators(area_body(file, k));
-        show::text(rt, b"area-total")?;
-        show::number_field(rt, area_number(file, k) as i64)?;
-        show_totals(rt, area_totals(block, count))?;
+    println!(rt; "\tload points\tcoordinators\tday tier\tM (0.001 MW)\tm (quarters)")?;
+    for area in areas {
+        show_area(rt, area)?;
     }
     Ok(())
 }
 
-fn show_day_totals(rt: &impl Print, file: &[u8], n: usize, statement: &[i64]) -> io::Result<()>
-    requires { (SoundFile file.now) × (n ≡ areas_of file.now) }
-{
-    show::text(
-        rt,
-        b"header\tday-total\ton-peak (cents)\toff-peak (cents)\tdownward (cents)\tcharges (cents)\nday-total",
-    )?;
-    show_totals(rt, day_totals(file, n, statement))
-}
+// ---- the hours
 
-// ---- totals by coordinator
-
-// Which of an area's coordinators has the number; K where none has.
-fn position(body: &[u8], coordinator: u32) -> usize
-    requires { Sound proved_points body.now }
-    ensures { result ≤ coordinators_of body.now }
-{
-    let count = coordinators(body);
-    for i in 0..count {
-        if words::word(body, 7 + i) == coordinator {
-            return i;
-        }
-    }
-    count
-}
-
-// Whether an area before area k names the coordinator.
-fn named_before(file: &[u8], k: usize, coordinator: u32) -> bool
-    requires { (SoundFile file.now) × (k ≤ areas_of file.now) }
-{
-    for before in 0..k {
-        let body = area_body(file, before);
-        if position(body, coordinator) < coordinators(body) {
-            return true;
-        }
-    }
-    false
-}
-
-// The charges of an area's coordinator i in all hours.
-fn charges_of(block: &[i64], count: usize, i: usize) -> i64
-    requires { count ≤ most_coordinators }
-{
-    let mut total: i64 = 0;
+fn show_area_hours(rt: &impl Print, area: Area<'_>) -> io::Result<()> {
+    let number = area.number;
+    let terms = area.terms;
+    let body = area.body;
+    let day = amounts::day_facts(terms, body);
     for h in 0..limits::DAY_HOURS {
-        total = reading::sum(total, reading::number(hour_charges(block, count, h), i));
+        let at = area.hour_start(h);
+        let hour = area.hour(h);
+        let shortage = explaining::hour_shortage(terms, day, body, h, at);
+        let upward = shortage.upward.0;
+        let requirement = shortage.requirement.0;
+        let tier = shortage.tier;
+        let peak = u8::from(shortage.peak);
+        let needed = u8::from(shortage.needed);
+        print!(rt;
+            "hour\t{number}\t{}\t{upward}\t{requirement}\t{tier}\t{peak}\t{needed}",
+            h + 1
+        )?;
+        let priced = explaining::hour_price(terms, day, body, h, at);
+        match priced.price {
+            Some(price) => print!(rt; "\t{}", price.0)?,
+            None => print!(rt; "\tnone")?,
+        }
+        print!(rt; "\t{}\t{}", priced.count, shortage.quarters)?;
+        print!(rt;
+            "\t{}\t{}\t{}\t{}",
+            hour.surcharge, hour.credit, hour.on, hour.off
+        )?;
+        let downward = explaining::hour_downward(terms, day, body, h, at).0;
+        let mec = explaining::hour_mec(terms, day, body, h, at);
+        let amount = explaining::hour_amount(terms, day, body, h, at).0;
+        let demand = explaining::hour_demand(terms, day, body, h, at);
+        println!(rt; "\t{downward}\t{mec}\t{}\t{amount}\t{demand}", hour.down)?;
     }
-    total
+    Ok(())
 }
 
-// The charges of a coordinator in an area; 0 where it is none of the area's.
-fn charges_in(body: &[u8], block: &[i64], coordinator: u32) -> i64
-    requires { Sound proved_points body.now }
-{
-    let count = coordinators(body);
-    let i = position(body, coordinator);
-    if i == count {
-        return 0;
+fn show_hours(rt: &impl Print, areas: Areas<'_>) -> io::Result<()> {
+    print!(rt;
+        "header\thour\tarea\thour ending\tU (0.001 MW)\tQ (0.001 MW)\ttier\tpeak\tprice needed\tprice ($0.0001)"
+    )?;
+    print!(rt;
+        "\tintervals with a price\tm (quarters)\tS (cents)\tcredit (cents)\ton-peak (cents)\toff-peak (cents)"
+    )?;
+    println!(rt; "\tW (0.001 MW)\tMEC ($0.0001)\tdownward (cents)\tA (cents)\tT (0.001 MWh)")?;
+    for area in areas {
+        show_area_hours(rt, area)?;
     }
-    charges_of(block, count, i)
+    Ok(())
 }
 
-fn coordinator_total(file: &[u8], n: usize, statement: &[i64], coordinator: u32) -> i64
-    requires { (SoundFile file.now) × (n ≡ areas_of file.now) }
+// ---- the intervals
+
+fn show_hour_intervals(rt: &impl Print, area: Area<'_>, h: usize) -> io::Result<()>
+    requires { h < day_hours }
 {
+    let number = area.number;
+    let from = area.hour_start(h) + 8;
+    for i in 0..12 * area.load_points() {
+        let quantity = words::word(area.body, from + 2 * i);
+        let price = words::word(area.body, from + 2 * i + 1);
+        print!(rt; "interval\t{number}\t{}\t{}\t{quantity}", h + 1, i + 1)?;
+        if price == limits::MISSING_PRICE {
+            println!(rt; "\tmissing")?;
+        } else {
+            println!(rt; "\t{}", words::signed(price))?;
+        }
+    }
+    Ok(())
+}
+
+fn show_intervals(rt: &impl Print, areas: Areas<'_>) -> io::Result<()> {
+    println!(rt;
+        "header\tinterval\tarea\thour ending\tinterval\tquantity (0.001 MWh)\tprice ($0.0001)"
+    )?;
+    for area in areas {
+        for h in 0..limits::DAY_HOURS {
+            show_hour_intervals(rt, area, h)?;
+        }
+    }
+    Ok(())
+}
+
+// ---- the charges
+
+fn show_hour_charges(rt: &impl Print, area: Area<'_>, h: usize) -> io::Result<()>
+    requires { h < day_hours }
+{
+    let number = area.number;
+    let hour = area.hour(h);
+    let from = area.hour_start(h) + 8 + 24 * area.load_points();
+    for i in 0..area.coordinators() {
+        let coordinator = area.coordinator(i);
+        let demand = words::word(area.body, from + i);
+        let charge = hour.charge(i);
+        println!(rt;
+            "charge\t{number}\t{coordinator}\t{}\t{demand}\t{charge}",
+            h + 1
+        )?;
+    }
+    Ok(())
+}
+
+fn show_charges(rt: &impl Print, areas: Areas<'_>) -> io::Result<()> {
+    println!(rt;
+        "header\tcharge\tarea\tcoordinator\thour ending\tdemand (0.001 MWh)\tcharge (cents)"
+    )?;
+    for area in areas {
+        for h in 0..limits::DAY_HOURS {
+            show_hour_charges(rt, area, h)?;
+        }
+    }
+    Ok(())
+}
+
+// ---- totals by area, by coordinator and of the day
+
+fn show_area_totals(rt: &impl Print, areas: Areas<'_>) -> io::Result<()> {
+    println!(rt;
+        "header\tarea-total\tarea\ton-peak (cents)\toff-peak (cents)\tdownward (cents)\tcharges (cents)"
+    )?;
+    for area in areas {
+        println!(rt; "area-total\t{}\t{}", area.number, area.totals())?;
+    }
+    Ok(())
+}
+
+fn show_day_totals(rt: &impl Print, areas: Areas<'_>) -> io::Result<()> {
+    println!(rt;
+        "header\tday-total\ton-peak (cents)\toff-peak (cents)\tdownward (cents)\tcharges (cents)"
+    )?;
+    let mut totals = Totals::default();
+    for area in areas {
+        totals = totals.and(area.totals());
+    }
+    println!(rt; "day-total\t{totals}")
+}
+
+fn coordinator_total(areas: Areas<'_>, coordinator: u32) -> i64 {
     let mut total: i64 = 0;
-    for k in 0..n {
-        let block = area_block(file, k, statement);
-        total = reading::sum(total, charges_in(area_body(file, k), block, coordinator));
+    for area in areas {
+        total = total.saturating_add(area.charges_of(coordinator));
     }
     total
 }
 
-// A coordinator's total, where area k is the first that names it.
-fn show_coordinator(
-    rt: &impl Print,
-    file: &[u8],
-    n: usize,
-    statement: &[i64],
-    k: usize,
-    coordinator: u32,
-) -> io::Result<()>
-    requires { (SoundFile file.now) × ((n ≡ areas_of file.now) × (k < n)) }
-{
-    if named_before(file, k, coordinator) {
-        return Ok(());
-    }
-    show::text(rt, b"coordinator-total")?;
-    show::number_field(rt, coordinator as i64)?;
-    show::number_field(rt, coordinator_total(file, n, statement, coordinator))?;
-    show::end(rt)
-}
-
+// The totals of an area's coordinators that none of the `before` areas names.
 fn show_area_coordinators(
     rt: &impl Print,
-    file: &[u8],
-    n: usize,
-    statement: &[i64],
-    k: usize,
-) -> io::Result<()>
-    requires { (SoundFile file.now) × ((n ≡ areas_of file.now) × (k < n)) }
-{
-    let body = area_body(file, k);
-    let count = coordinators(body);
-    for i in 0..count {
-        show_coordinator(rt, file, n, statement, k, words::word(body, 7 + i))?;
+    areas: Areas<'_>,
+    area: Area<'_>,
+    before: usize,
+) -> io::Result<()> {
+    for i in 0..area.coordinators() {
+        let coordinator = area.coordinator(i);
+        if areas
+            .take(before)
+            .all(|other| other.position(coordinator).is_none())
+        {
+            println!(rt;
+                "coordinator-total\t{coordinator}\t{}",
+                coordinator_total(areas, coordinator)
+            )?;
+        }
     }
     Ok(())
 }
 
-fn show_coordinators(rt: &impl Print, file: &[u8], n: usize, statement: &[i64]) -> io::Result<()>
-    requires { (SoundFile file.now) × (n ≡ areas_of file.now) }
-{
-    show::text(
-        rt,
-        b"header\tcoordinator-total\tcoordinator\tcharges (cents)\n",
-    )?;
-    for k in 0..n {
-        show_area_coordinators(rt, file, n, statement, k)?;
+fn show_coordinators(rt: &impl Print, areas: Areas<'_>) -> io::Result<()> {
+    println!(rt; "header\tcoordinator-total\tcoordinator\tcharges (cents)")?;
+    for (k, area) in areas.enumerate() {
+        show_area_coordinators(rt, areas, area, k)?;
     }
     Ok(())
 }
@@ -683,100 +454,77 @@ fn show_coordinators(rt: &impl Print, file: &[u8], n: usize, statement: &[i64]) 
 fn show_settled(rt: &impl Print, file: &[u8], statement: &[i64]) -> io::Result<()>
     requires { SoundFile file.now }
 {
-    let n = words::word(file, 2) as usize;
-    let peak = words::word(file, 3);
+    let areas = all_areas(file, statement);
     show_day(rt, file)?;
-    show_areas(rt, file, n, peak)?;
-    show_hours(rt, file, n, peak, statement)?;
-    show_intervals(rt, file, n)?;
-    show_charges(rt, file, n, statement)?;
-    show_area_totals(rt, file, n, statement)?;
-    show_coordinators(rt, file, n, statement)?;
-    show_day_totals(rt, file, n, statement)
+    show_areas(rt, areas)?;
+    show_hours(rt, areas)?;
+    show_intervals(rt, areas)?;
+    show_charges(rt, areas)?;
+    show_area_totals(rt, areas)?;
+    show_coordinators(rt, areas)?;
+    show_day_totals(rt, areas)
 }
 
 // ---- a day that is refused
 
-fn show_field(rt: &impl Print, field: Field) -> io::Result<()> {
+fn name_of(field: Field) -> &'static str {
     match field {
-        Field::Edition => show::field(rt, b"edition"),
-        Field::TradingDay => show::field(rt, b"trading day"),
-        Field::Areas => show::field(rt, b"areas"),
-        Field::PeakWord => show::field(rt, b"peak word"),
-        Field::AreaNumber => show::field(rt, b"area number"),
-        Field::FirstWord => show::field(rt, b"first word"),
-        Field::Words => show::field(rt, b"words"),
-        _ => show_body_field(rt, field),
-    }
-}
-
-fn show_body_field(rt: &impl Print, field: Field) -> io::Result<()> {
-    match field {
-        Field::Kind => show::field(rt, b"kind"),
-        Field::Flag => show::field(rt, b"flag"),
-        Field::PersistentDays => show::field(rt, b"persistent days"),
-        Field::HubPriceA => show::field(rt, b"hub price A"),
-        Field::HubPriceB => show::field(rt, b"hub price B"),
-        Field::LoadPoints => show::field(rt, b"load points"),
-        Field::Coordinators => show::field(rt, b"coordinators"),
-        Field::Coordinator { which: _ } => show::field(rt, b"coordinator"),
-        _ => show_number_field(rt, field),
-    }
-}
-
-fn show_number_field(rt: &impl Print, field: Field) -> io::Result<()> {
-    match field {
-        Field::UpwardEnergy => show::field(rt, b"upward energy"),
-        Field::RegulationUp => show::field(rt, b"regulation up"),
-        Field::Spin => show::field(rt, b"spin"),
-        Field::NonSpin => show::field(rt, b"non-spin"),
-        Field::DownwardEnergy => show::field(rt, b"downward energy"),
-        Field::RegulationDown => show::field(rt, b"regulation down"),
-        Field::Requirement => show::field(rt, b"requirement"),
-        Field::Mec => show::field(rt, b"MEC"),
-        _ => show_counted_field(rt, field),
-    }
-}
-
-fn show_counted_field(rt: &impl Print, field: Field) -> io::Result<()> {
-    match field {
-        Field::IntervalQuantity { which: _ } => show::field(rt, b"interval quantity"),
-        Field::IntervalPrice { which: _ } => show::field(rt, b"interval price"),
-        Field::Demand { which: _ } => show::field(rt, b"demand"),
-        _ => show::field(rt, b"nowhere"),
+        Field::Edition => "edition",
+        Field::TradingDay => "trading day",
+        Field::Areas => "areas",
+        Field::PeakWord => "peak word",
+        Field::AreaNumber => "area number",
+        Field::FirstWord => "first word",
+        Field::Words => "words",
+        Field::Kind => "kind",
+        Field::Flag => "flag",
+        Field::PersistentDays => "persistent days",
+        Field::HubPriceA => "hub price A",
+        Field::HubPriceB => "hub price B",
+        Field::LoadPoints => "load points",
+        Field::Coordinators => "coordinators",
+        Field::Coordinator { .. } => "coordinator",
+        Field::UpwardEnergy => "upward energy",
+        Field::RegulationUp => "regulation up",
+        Field::Spin => "spin",
+        Field::NonSpin => "non-spin",
+        Field::DownwardEnergy => "downward energy",
+        Field::RegulationDown => "regulation down",
+        Field::Requirement => "requirement",
+        Field::Mec => "MEC",
+        Field::IntervalQuantity { .. } => "interval quantity",
+        Field::IntervalPrice { .. } => "interval price",
+        Field::Demand { .. } => "demand",
+        Field::Nowhere => "nowhere",
     }
 }
 
 // Which coordinator, interval or demand, from 1; 0 for any other field.
 fn which(field: Field) -> usize {
     match field {
-        Field::Coordinator { which } => which,
-        Field::IntervalQuantity { which } => which,
-        Field::IntervalPrice { which } => which,
-        Field::Demand { which } => which,
+        Field::Coordinator { which }
+        | Field::IntervalQuantity { which }
+        | Field::IntervalPrice { which }
+        | Field::Demand { which } => which,
         _ => 0,
     }
 }
 
-fn show_part(rt: &impl Print, file: &[u8], at: usize, hour: usize) -> io::Result<()> {
+fn part_of(file: &[u8], at: usize, hour: usize) -> &'static str {
     if at < 4 {
-        return show::field(rt, b"head");
+        "head"
+    } else if at < 4 + 3 * (locating::word(file, 2) as usize) {
+        "contents"
+    } else if hour == 0 {
+        "body"
+    } else {
+        "hour"
     }
-    if at < 4 + 3 * (locating::word(file, 2) as usize) {
-        return show::field(rt, b"contents");
-    }
-    if hour == 0 {
-        return show::field(rt, b"body");
-    }
-    show::field(rt, b"hour")
 }
 
 // The number of the area of an entry, from 1; 0 where it is none.
 fn entry_number(file: &[u8], entry: usize) -> u32 {
-    if entry < 1 {
-        return 0;
-    }
-    if limits::MOST_AREAS < entry {
+    if entry == 0 || limits::MOST_AREAS < entry {
         return 0;
     }
     locating::word(file, 1 + 3 * entry)
@@ -798,98 +546,59 @@ fn count_present(file: &[u8], at: usize, load: usize) -> u32
     requires { (at < 4294967296) × (load < 4294967296) }
 {
     let from = 4 * at;
-    let to = from + 96 * load;
-    if file.len() < to {
-        return 0;
-    }
-    price::count_of(price::load_weighted(&file[from..to]))
+    let pairs = file.get(from..from + 96 * load).unwrap_or(&[]);
+    price::count_of(price::load_weighted(pairs))
 }
 
-// How many intervals of the hour have a price and how many there are, where that is what is refused.
-fn show_intervals_seen(
-    rt: &impl Print,
-    file: &[u8],
-    number: u32,
-    at: usize,
-    entry: usize,
-) -> io::Result<()> {
-    if number != 11 {
-        if number != 16 {
-            return show::text(rt, b"\t0\t0\n");
+// How many intervals of the hour have a price and how many there are, where that is what is refused; else 0 of 0.
+fn intervals_seen(file: &[u8], refusal: Refusal, entry: usize) -> (u32, usize) {
+    match refusal {
+        Refusal::PriceWithoutQuantity { place } | Refusal::TooFewIntervals { place }
+            if place <= limits::MOST_BYTES => {
+            let load = entry_points(file, entry);
+            (count_present(file, place, load), 12 * load)
         }
+        _ => (0, 0),
     }
-    if limits::MOST_BYTES < at {
-        return show::text(rt, b"\t0\t0\n");
-    }
-    let load = entry_points(file, entry);
-    show::number_field(rt, count_present(file, at, load) as i64)?;
-    show::count_field(rt, 12 * load)?;
-    show::end(rt)
-}
-
-fn refused_header(rt: &impl Print) -> io::Result<()> {
-    show::text(
-        rt,
-        b"header\trefused\tnumber\tplace\tpart\tentry\tarea\thour ending\tfield\twhich\tvalue\tintervals with a price\tintervals\n",
-    )
-}
-
-// A refusal that names no word of the file: what of the file is meant, and its value.
-fn show_unplaced(
-    rt: &impl Print,
-    number: u32,
-    place: usize,
-    what: &[u8],
-    value: usize,
-) -> io::Result<()> {
-    refused_header(rt)?;
-    show::text(rt, b"refused")?;
-    show::number_field(rt, number as i64)?;
-    show::count_field(rt, place)?;
-    show::text(rt, what)?;
-    show::count_field(rt, value)?;
-    show::text(rt, b"\t0\t0\n")
 }
 
 // A refusal at a word of the file.
 fn show_placed(
     rt: &impl Print,
     file: &[u8],
-    number: u32,
+    refusal: Refusal,
     at: usize,
     place: Place,
 ) -> io::Result<()> {
-    let field = place.field;
-    refused_header(rt)?;
-    show::text(rt, b"refused")?;
-    show::number_field(rt, number as i64)?;
-    show::count_field(rt, at)?;
-    show_part(rt, file, at, place.hour)?;
-    show::count_field(rt, place.entry)?;
-    show::signed_word_field(rt, words::signed(entry_number(file, place.entry)))?;
-    show::count_field(rt, place.hour)?;
-    show_field(rt, field)?;
-    show::count_field(rt, which(field))?;
-    show::signed_word_field(rt, words::signed(locating::word(file, at)))?;
-    show_intervals_seen(rt, file, number, at, place.entry)
+    let part = part_of(file, at, place.hour);
+    let area = words::signed(entry_number(file, place.entry));
+    let name = name_of(place.field);
+    let which = which(place.field);
+    let value = words::signed(locating::word(file, at));
+    let (present, intervals) = intervals_seen(file, refusal, place.entry);
+    print!(rt;
+        "\t{part}\t{}\t{area}\t{}\t{name}\t{which}\t{value}",
+        place.entry, place.hour
+    )?;
+    println!(rt; "\t{present}\t{intervals}")
 }
 
+// Two refusals name no word of the file: what of it is meant, and its value.
 fn show_refused(rt: &impl Print, file: &[u8], refusal: Refusal) -> io::Result<()> {
     let number = refusal.number();
     let place = refusal.place();
-    if number == 1 {
-        return show_unplaced(rt, number, place, b"\tfile\t0\t0\t0\tbytes\t0", file.len());
+    print!(rt;
+        "header\trefused\tnumber\tplace\tpart\tentry\tarea\thour ending\tfield\twhich\tvalue"
+    )?;
+    println!(rt; "\tintervals with a price\tintervals")?;
+    print!(rt; "refused\t{number}\t{place}")?;
+    match refusal {
+        Refusal::BadLength => println!(rt; "\tfile\t0\t0\t0\tbytes\t0\t{}\t0\t0", file.len()),
+        Refusal::RoomTooShort { needed } => println!(rt;
+            "\tstatement\t0\t0\t0\tnumbers needed\t0\t{needed}\t0\t0"
+        ),
+        _ => show_placed(rt, file, refusal, place, locating::find(file, place)),
     }
-    if number == 13 {
-        return show_unplaced(
-            rt,
-            number,
-            place,
-            b"\tstatement\t0\t0\t0\tnumbers needed\t0",
-            place,
-        );
-    }
-    show_placed(rt, file, number, place, locating::find(file, place))
 }
 
 // Prints what the charges of a day that is settled come from, or where it is refused.

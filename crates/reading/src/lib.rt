@@ -1,4 +1,4 @@
-// What the programs read a day file and a statement with: the room for the longest of each, the file itself, the numbers of a statement, and their sum.
+// What the programs read a day file with: the room for the longest file and for its statement, and the file itself.
 #![tactic(auto)]
 
 ghost use Rattle.std.specs.Prelude.{◌≡◌, ◌+◌, ◌≤◌, length, IfOk};
@@ -21,33 +21,6 @@ pub fn statement_room() -> [i64; settlement::MOST_NUMBERS]
     ensures { most_numbers ≡ length result }
 {
     [0; settlement::MOST_NUMBERS]
-}
-
-// Number i of a statement. A settled statement is not asked for a number past its end.
-pub fn number(statement: &[i64], i: usize) -> i64 {
-    if statement.len() <= i {
-        return 0;
-    }
-    statement[i]
-}
-
-// The statement from a number on.
-pub fn part(statement: &[i64], from: usize) -> &[i64] {
-    if statement.len() < from {
-        return &statement[..0];
-    }
-    &statement[from..]
-}
-
-// A charge is within limits::MOST_AMOUNT, and a statement has at most settlement::MOST_NUMBERS: the sum does not come near the bound.
-pub fn sum(total: i64, charge: i64) -> i64 {
-    if 1000000000000000000 < exact::absolute(total) {
-        return total;
-    }
-    if 1000000000000000000 < exact::absolute(charge) {
-        return total;
-    }
-    total + charge
 }
 
 // Reads until the room is full or the input ends: how many bytes there are.

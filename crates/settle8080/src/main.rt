@@ -7,114 +7,19 @@ ghost use Rattle.limits.specs.Ranges.{most_coordinators};
 ghost use Rattle.limits.specs.Editions.{most_areas};
 
 use std::io;
-use verdict::Refusal;
 
-// A word that says how many there are. An accepted file says no more than `most`.
-fn count(word: u32, most: u32) -> usize
-    ensures { result ≤ most }
+// N of a file. An accepted file has no more areas than its edition.
+fn areas(file: &[u8]) -> usize
+    ensures { result ≤ most_areas }
 {
-    if most < word {
-        return most as usize;
-    }
-    word as usize
+    locating::word(file, 2).min(limits::MOST_AREAS as u32) as usize
 }
 
-// K of an area.
+// K of an area. An accepted file says no more than the most of any.
 fn coordinators(body: &[u8]) -> usize
     ensures { result ≤ most_coordinators }
 {
-    count(locating::word(body, 6), limits::MOST_COORDINATORS as u32)
-}
-
-fn show_refusal(rt: &impl Print, refusal: Refusal) -> io::Result<()> {
-    show::text(rt, b"refused ")?;
-    show::unsigned(rt, refusal.number() as u64)?;
-    show::space(rt)?;
-    show::unsigned(rt, refusal.place() as u64)?;
-    show::end(rt)
-}
-
-fn show_head(rt: &impl Print, file: &[u8]) -> io::Result<()> {
-    show::text(rt, b"8080 ")?;
-    show::unsigned(rt, locating::word(file, 1) as u64)?;
-    show::space(rt)?;
-    show::unsigned(rt, locating::word(file, 2) as u64)?;
-    show::end(rt)
-}
-
-fn show_charge(
-    rt: &impl Print,
-    area: u32,
-    coordinator: u32,
-    hour: usize,
-    charge: i64,
-) -> io::Result<()> {
-    show::unsigned(rt, area as u64)?;
-    show::space(rt)?;
-    show::unsigned(rt, coordinator as u64)?;
-    show::space(rt)?;
-    show::unsigned(rt, hour as u64)?;
-    show::space(rt)?;
-    show::signed(rt, charge)?;
-    show::end(rt)
-}
-
-fn show_total(rt: &impl Print, total: i64) -> io::Result<()> {
-    show::text(rt, b"total ")?;
-    show::signed(rt, total)?;
-    show::end(rt)
-}
-
-// Prints a charge that is not 0, and adds it to the sum of those before.
-fn with_charge(
-    rt: &impl Print,
-    before: i64,
-    area: u32,
-    coordinator: u32,
-    hour: usize,
-    charge: i64,
-) -> io::Result<i64> {
-    if charge == 0 {
-        return Ok(before);
-    }
-    show_charge(rt, area, coordinator, hour, charge)?;
-    Ok(reading::sum(before, charge))
-}
-
-fn with_hour(
-    rt: &impl Print,
-    before: i64,
-    area: u32,
-    body: &[u8],
-    hour: usize,
-    charges: &[i64],
-) -> io::Result<i64> {
-    let n = coordinators(body);
-    let mut total = before;
-    for i in 0..n {
-        let coordinator = locating::word(body, 7 + i);
-        let charge = reading::number(charges, i);
-        total = with_charge(rt, total, area, coordinator, hour, charge)?;
-    }
-    Ok(total)
-}
-
-// The charges of an hour stand behind its amounts.
-fn with_area(
-    rt: &impl Print,
-    before: i64,
-    area: u32,
-    body: &[u8],
-    block: &[i64],
-) -> io::Result<i64> {
-    let n = coordinators(body);
-    let mut total = before;
-    let mut at: usize = statement::AMOUNTS_SHOWN;
-    for h in 0..limits::DAY_HOURS {
-        total = with_hour(rt, total, area, body, h + 1, reading::part(block, at))?;
-        at += statement::hour_numbers(n);
-    }
-    Ok(total)
+    locating::word(body, 6).min(limits::MOST_COORDINATORS as u32) as usize
 }
 
 // The bytes of body k. An accepted file has them where its contents say.
@@ -123,30 +28,68 @@ fn body_at(file: &[u8], k: usize) -> &[u8]
 {
     let from = 4 * (locating::word(file, 5 + 3 * k) as usize);
     let to = from + 4 * (locating::word(file, 6 + 3 * k) as usize);
-    if file.len() < to {
-        return &file[..0];
-    }
-    &file[from..to]
+    file.get(from..to).unwrap_or(&[])
 }
 
-// Prints the charges, and answers their sum.
+// Prints the charges of an hour, which stand behind its amounts, and adds them to the sum of those before. A charge of 0 is not printed.
+// A charge is within limits::MOST_AMOUNT, and a statement has at most settlement::MOST_NUMBERS: the sum does not come near its bound.
+fn with_hour(
+    rt: &impl Print,
+    before: i64,
+    area: u32,
+    body: &[u8],
+    hour: usize,
+    numbers: &[i64],
+) -> io::Result<i64> {
+    let mut total = before;
+    for (i, charge) in numbers.iter().skip(statement::AMOUNTS_SHOWN).enumerate() {
+        if *charge != 0 {
+            let coordinator = locating::word(body, 7 + i);
+            println!(rt; "{area} {coordinator} {hour} {charge}")?;
+            total = total.saturating_add(*charge);
+        }
+    }
+    Ok(total)
+}
+
+fn with_area(
+    rt: &impl Print,
+    before: i64,
+    area: u32,
+    body: &[u8],
+    block: &[i64],
+) -> io::Result<i64> {
+    let mut total = before;
+    let numbers_each = statement::hour_numbers(coordinators(body));
+    for (h, numbers) in block.chunks(numbers_each).enumerate() {
+        total = with_hour(rt, total, area, body, h + 1, numbers)?;
+    }
+    Ok(total)
+}
+
+// Prints the charges, and answers their sum. The areas follow each other in the statement.
 fn show_charges(rt: &impl Print, file: &[u8], statement: &[i64]) -> io::Result<i64> {
-    let n = count(locating::word(file, 2), limits::MOST_AREAS as u32);
     let mut total = 0;
-    let mut at: usize = 0;
-    for k in 0..n {
+    let mut rest = statement;
+    for k in 0..areas(file) {
         let area = locating::word(file, 4 + 3 * k);
         let body = body_at(file, k);
-        total = with_area(rt, total, area, body, reading::part(statement, at))?;
-        at += statement::area_numbers(coordinators(body));
+        let numbers = statement::area_numbers(coordinators(body));
+        let (block, others) = rest.split_at_checked(numbers).unwrap_or((&[], &[]));
+        total = with_area(rt, total, area, body, block)?;
+        rest = others;
     }
     Ok(total)
 }
 
 fn show_statement(rt: &impl Print, file: &[u8], statement: &[i64]) -> io::Result<()> {
-    show_head(rt, file)?;
+    println!(rt;
+        "8080 {} {}",
+        locating::word(file, 1),
+        locating::word(file, 2)
+    )?;
     let total = show_charges(rt, file, statement)?;
-    show_total(rt, total)
+    println!(rt; "total {total}")
 }
 
 // Prints the charges of a day that is settled, or why it is refused.
@@ -154,7 +97,7 @@ fn settle(rt: &impl Print, file: &[u8]) -> io::Result<()> {
     let mut statement = reading::statement_room();
     match settlement::settle(file, &mut statement) {
         Ok(()) => show_statement(rt, file, &statement),
-        Err(refusal) => show_refusal(rt, refusal),
+        Err(refusal) => println!(rt; "refused {refusal}"),
     }
 }
 

@@ -14,6 +14,7 @@ ghost use Rattle.contents.specs.File.{areas_of};
 ghost use Rattle.surcharge.specs.Ranges.{TermsKept};
 ghost use Rattle.settlement.specs.SoundFile.{SoundFile};
 
+use amounts::DayHour;
 use locating::{Field, Place};
 use std::{fmt, io};
 use surcharge::Terms;
@@ -279,9 +280,15 @@ fn show_area_hours(rt: &impl Print, area: Area<'_>) -> io::Result<()> {
     let body = area.body;
     let day = amounts::day_facts(terms, body);
     for h in 0..limits::DAY_HOURS {
-        let at = area.hour_start(h);
+        let day_hour = DayHour {
+            terms,
+            day,
+            body,
+            h,
+            at: area.hour_start(h),
+        };
         let hour = area.hour(h);
-        let shortage = explaining::hour_shortage(terms, day, body, h, at);
+        let shortage = explaining::hour_shortage(day_hour);
         let upward = shortage.upward.0;
         let requirement = shortage.requirement.0;
         let tier = shortage.tier;
@@ -291,7 +298,7 @@ fn show_area_hours(rt: &impl Print, area: Area<'_>) -> io::Result<()> {
             "hour\t{number}\t{}\t{upward}\t{requirement}\t{tier}\t{peak}\t{needed}",
             h + 1
         )?;
-        let priced = explaining::hour_price(terms, day, body, h, at);
+        let priced = explaining::hour_price(day_hour);
         match priced.price {
             Some(price) => print!(rt; "\t{}", price.0)?,
             None => print!(rt; "\tnone")?,
@@ -301,10 +308,10 @@ fn show_area_hours(rt: &impl Print, area: Area<'_>) -> io::Result<()> {
             "\t{}\t{}\t{}\t{}",
             hour.surcharge, hour.credit, hour.on, hour.off
         )?;
-        let downward = explaining::hour_downward(terms, day, body, h, at).0;
-        let mec = explaining::hour_mec(terms, day, body, h, at);
-        let amount = explaining::hour_amount(terms, day, body, h, at).0;
-        let demand = explaining::hour_demand(terms, day, body, h, at);
+        let downward = explaining::hour_downward(day_hour).0;
+        let mec = explaining::hour_mec(day_hour);
+        let amount = explaining::hour_amount(day_hour).0;
+        let demand = explaining::hour_demand(day_hour);
         println!(rt; "\t{downward}\t{mec}\t{}\t{amount}\t{demand}", hour.down)?;
     }
     Ok(())

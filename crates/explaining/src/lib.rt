@@ -6,12 +6,10 @@ ghost use Rattle.std.specs.Prelude.{◌≡◌, cond};
 ghost use Rattle.exact.specs.Total.{total};
 ghost use Rattle.body.specs.Layout.{hour_at, mec_at, demands_of};
 ghost use Rattle.amounts.specs.Amounts.{downward_from, amount_at, price_answer_at};
-ghost use Rattle.amounts.specs.Ranges.{AtHour};
 ghost use Rattle.explaining.specs.Explaining.{multiplier_of, shortage_at, priced_of};
 
 use amounts::DayHour;
 use price::{PriceRefusal, Priced};
-use surcharge::{Day, Terms};
 use units::{Cents, MarketPrice, Quantity};
 
 // The shortage of an hour: U, Q and the tier, whether it is a peak hour and needs its price, and m in quarters.
@@ -52,18 +50,18 @@ fn hour_multiplier(peak: bool, day: u32, tier: u32) -> u32
     multiplier(tier)
 }
 
-// The shortage of hour h, which starts at word `at`. `day` has the facts of the area's day.
+// The shortage of the hour.
 #[tactic(auto, using(amounts::proofs::Hours::hour_there))]
-pub fn hour_shortage(terms: Terms, day: Day, body: &[u8], h: usize, at: usize) -> Shortage
-    requires { AtHour terms day body.now h at }
-    ensures { result ≡ shortage_at terms body.now h }
+pub fn hour_shortage(hour: DayHour) -> Shortage
+    ensures { result ≡ shortage_at hour.entry.terms hour.entry.body.now hour.entry.h }
 {
-    let facts = amounts::hour_facts(true, body, at);
+    let body = hour.body;
+    let facts = amounts::hour_facts(true, body, hour.at);
     let tier = facts.tier;
-    let requirement = Quantity(words::word(body, at + 6));
-    let peak = surcharge::peak_hour(terms, h);
-    let needed = surcharge::price_needed(words::word(body, 1), peak, day.tier, tier);
-    let quarters = hour_multiplier(peak, day.tier, tier);
+    let requirement = Quantity(words::word(body, hour.at + 6));
+    let peak = surcharge::peak_hour(hour.terms, hour.h);
+    let needed = surcharge::price_needed(words::word(body, 1), peak, hour.day.tier, tier);
+    let quarters = hour_multiplier(peak, hour.day.tier, tier);
     Shortage {
         upward: facts.upward,
         requirement,
@@ -83,57 +81,44 @@ fn priced_by(answer: Result<Priced, PriceRefusal>) -> HourPrice
     }
 }
 
-// The price of hour h.
+// The price of the hour.
 #[tactic(auto, using(amounts::proofs::Hours::hour_there))]
-pub fn hour_price(terms: Terms, day: Day, body: &[u8], h: usize, at: usize) -> HourPrice
-    requires { AtHour terms day body.now h at }
-    ensures { result ≡ priced_of (price_answer_at body.now h) }
+pub fn hour_price(hour: DayHour) -> HourPrice
+    ensures { result ≡ priced_of (price_answer_at hour.entry.body.now hour.entry.h) }
 {
-    let load = words::word(body, 5) as usize;
-    priced_by(amounts::hour_price(body, load, at + 8))
+    priced_by(hour.price())
 }
 
-// A of hour h.
+// A of the hour.
 #[tactic(auto, using(amounts::proofs::AmountSizes::amount_is))]
-pub fn hour_amount(terms: Terms, day: Day, body: &[u8], h: usize, at: usize) -> Cents
-    requires { AtHour terms day body.now h at }
-    ensures { result.0 ≡ amount_at terms body.now h }
+pub fn hour_amount(hour: DayHour) -> Cents
+    ensures { result.0 ≡ amount_at hour.entry.terms hour.entry.body.now hour.entry.h }
 {
-    let hour = DayHour {
-        terms,
-        day,
-        body,
-        h,
-        at,
-    };
     amounts::amount_of(hour.amounts(hour.needed_price()))
 }
 
-// T of hour h.
+// T of the hour.
 #[tactic(auto, using(statement::proofs::Demands::demands_ranged))]
-pub fn hour_demand(terms: Terms, day: Day, body: &[u8], h: usize, at: usize) -> u32
-    requires { AtHour terms day body.now h at }
-    ensures { result ≡ total (demands_of body.now h) }
+pub fn hour_demand(hour: DayHour) -> u32
+    ensures { result ≡ total (demands_of hour.entry.body.now hour.entry.h) }
 {
-    let load = words::word(body, 5) as usize;
-    let count = words::word(body, 6) as usize;
-    shares::sum_of_words(body, at + 8 + 24 * load, count)
+    let load = words::word(hour.body, 5) as usize;
+    let count = words::word(hour.body, 6) as usize;
+    shares::sum_of_words(hour.body, hour.at + 8 + 24 * load, count)
 }
 
-// W of hour h.
+// W of the hour.
 #[tactic(auto, using(amounts::proofs::Hours::hour_there))]
-pub fn hour_downward(terms: Terms, day: Day, body: &[u8], h: usize, at: usize) -> Quantity
-    requires { AtHour terms day body.now h at }
-    ensures { result.0 ≡ downward_from body.now (hour_at body.now h) }
+pub fn hour_downward(hour: DayHour) -> Quantity
+    ensures { result.0 ≡ downward_from hour.entry.body.now (hour_at hour.entry.body.now hour.entry.h) }
 {
-    amounts::downward_quantity(body, at)
+    amounts::downward_quantity(hour.body, hour.at)
 }
 
-// MEC of hour h.
+// MEC of the hour.
 #[tactic(auto, using(amounts::proofs::Hours::hour_there))]
-pub fn hour_mec(terms: Terms, day: Day, body: &[u8], h: usize, at: usize) -> i32
-    requires { AtHour terms day body.now h at }
-    ensures { result ≡ mec_at body.now h }
+pub fn hour_mec(hour: DayHour) -> i32
+    ensures { result ≡ mec_at hour.entry.body.now hour.entry.h }
 {
-    words::signed(words::word(body, at + 7))
+    words::signed(words::word(hour.body, hour.at + 7))
 }

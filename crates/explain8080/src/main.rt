@@ -186,6 +186,7 @@ impl<'a> Iterator for Areas<'a> {
     }
 }
 
+// The areas of a settled file, each with its numbers in the file's statement.
 fn all_areas<'a>(file: &'a [u8], statement: &'a [i64]) -> Areas<'a>
     requires { SoundFile file.now }
 {
@@ -242,6 +243,7 @@ fn show_day(rt: &impl Print, file: &[u8]) -> io::Result<()>
     )
 }
 
+// The words of the body's head as the file has them, with the greater hub price behind the two; then L, K, the day tier, M and m.
 fn show_area(rt: &impl Print, area: Area<'_>) -> io::Result<()> {
     let body = area.body;
     let number = area.number;
@@ -274,6 +276,8 @@ fn show_areas(rt: &impl Print, areas: Areas<'_>) -> io::Result<()> {
 
 // ---- the hours
 
+// Of each hour U, Q, the tier, whether it is a peak hour, and whether the price is needed; the price and its count; m; S, the credit, the
+// on-peak and the off-peak amount, as the statement shows them; W, MEC, the downward amount, A and T.
 fn show_area_hours(rt: &impl Print, area: Area<'_>) -> io::Result<()> {
     let number = area.number;
     let terms = area.terms;

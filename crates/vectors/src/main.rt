@@ -2,8 +2,7 @@
 // A case is four words (the call, x, y, the number of payload bytes) and its payload; the stream ends where no whole case follows.
 #![tactic(auto)]
 
-ghost use Rattle.std.specs.Prelude.{◌≡◌, ◌+◌, ◌*◌, ◌≤◌, ◌<◌, ◌^◌, length};
-ghost use Rattle.sharing.specs.Rows.{rows_by_value};
+ghost use Rattle.std.specs.Prelude.{◌≡◌, ◌+◌, ◌*◌, ◌≤◌, length};
 ghost use Rattle.record_words.specs.Words.{record_words};
 
 use record_words::RECORD_WORDS;
@@ -12,444 +11,275 @@ use sharing::{ROWS_BY_VALUE, Row};
 use std::io;
 use verdict::Refusal;
 
-// Room for a payload: a month book of many days.
-fn payload_room() -> [u8; 262144]
-    ensures { 262144 ≡ length result }
-{
-    [0; 262144]
+// The most bytes of a payload: a month book of many days.
+const PAYLOAD_ROOM: usize = 262144;
+
+// The most numbers that are lent to a call: more than the longest statement needs.
+const NUMBERS_ROOM: usize = 8192;
+
+// The most words of a basis.
+const BASIS_ROOM: usize = 1024;
+
+// Why no more cases are run.
+#[derive(Debug, Drop)]
+enum Stop {
+    End,
+    BadCase,
+    Failed(io::Error),
 }
 
-// Room for a statement, in numbers: more than the longest needs.
-fn statement_room() -> [i64; 8192]
-    ensures { 8192 ≡ length result }
-{
-    [0; 8192]
+impl From<io::Error> for Stop {
+    fn from(error: io::Error) -> Stop {
+        Stop::Failed(error)
+    }
 }
 
-fn bad_case(rt: &impl Print) -> io::Result<bool> {
-    show::text(rt, b"bad case\n")?;
-    Ok(false)
+// A whole number of a case as a count, and the payload behind it.
+fn counted(payload: &[u8]) -> Result<(usize, &[u8]), Stop> {
+    let (count, rest) = payload.split_at_checked(4).ok_or(Stop::BadCase)?;
+    Ok((words::word(count, 0) as usize, rest))
+}
+
+// The words at the front of some bytes; 0 for each that is not there.
+fn words_of<const COUNT: usize>(bytes: &[u8]) -> [u32; COUNT] {
+    let mut numbers = [0; COUNT];
+    for (number, word) in numbers.iter_mut().zip(bytes.chunks_exact(4)) {
+        *number = words::word(word, 0);
+    }
+    numbers
+}
+
+fn digest(bytes: &[u8]) -> u32 {
+    bytes.iter().fold(
+        0,
+        |sum: u32, byte| sum.wrapping_mul(31).wrapping_add(u32::from(*byte)),
+    )
 }
 
 fn show_verdict(rt: &impl Print, answer: Result<(), Refusal>) -> io::Result<()> {
-    show::unsigned(rt, verdict::number(answer) as u64)?;
-    show::space(rt)?;
-    show::unsigned(rt, verdict::place(answer) as u64)
-}
-
-fn digest_step(h: u64, byte: u8) -> u64
-    requires { h < 2 ^ 32 }
-    ensures { result < 2 ^ 32 }
-{
-    (31 * h + byte as u64) % 4294967296
-}
-
-fn digest(bytes: &[u8]) -> u64 {
-    let mut h: u64 = 0;
-    for byte in bytes {
-        h = digest_step(h, *byte);
+    match answer {
+        Ok(()) => print!(rt; "0 0"),
+        Err(refusal) => print!(rt; "{refusal}"),
     }
-    h
 }
 
-fn check(rt: &impl Print, file: &[u8]) -> io::Result<()> {
+// The numbers that are lent to a call: what is printed of them shows whether the call touched them.
+fn lend(numbers: &mut [i64]) {
+    for (number, lent) in numbers.iter_mut().zip(-9000000000000000000..0) {
+        *number = lent;
+    }
+}
+
+// Lends x numbers of some room to a call, and prints its verdict and what it left in them.
+fn with_numbers<F: FnOnce(&mut [i64]) -> Result<(), Refusal>>(
+    rt: &impl Print,
+    room: &mut [i64],
+    x: usize,
+    call: F,
+) -> Result<(), Stop>
+    requires { F.IsAlwaysCallable call }
+{
+    let numbers = room.get_mut(..x).ok_or(Stop::BadCase)?;
+    lend(numbers);
+    show_verdict(rt, call(numbers))?;
+    show::numbers(rt, numbers)?;
+    println!(rt)?;
+    Ok(())
+}
+
+fn check(rt: &impl Print, file: &[u8]) -> Result<(), Stop> {
     show_verdict(rt, dayfile::check(file))?;
-    show::end(rt)
+    println!(rt)?;
+    Ok(())
 }
 
-fn lookup(rt: &impl Print, file: &[u8], area: u32) -> io::Result<()> {
-    let body = dayfile::body_of(file, area);
-    show::unsigned(rt, body.len() as u64)?;
-    show::space(rt)?;
-    show::unsigned(rt, digest(body))?;
-    show::end(rt)
+fn settle(rt: &impl Print, file: &[u8], x: usize) -> Result<(), Stop> {
+    with_numbers(
+        rt,
+        &mut [0; NUMBERS_ROOM],
+        x,
+        |statement| settlement::settle(file, statement),
+    )
 }
 
-fn price(rt: &impl Print, pairs: &[u8]) -> io::Result<()> {
+fn price(rt: &impl Print, pairs: &[u8]) -> Result<(), Stop> {
     let answer = price::load_weighted(pairs);
-    show::unsigned(rt, price::number(answer) as u64)?;
-    show::space(rt)?;
-    show::unsigned(rt, price::place(answer) as u64)?;
-    show::space(rt)?;
-    show::signed_word(rt, price::price_of(answer))?;
-    show::space(rt)?;
-    show::unsigned(rt, price::count_of(answer) as u64)?;
-    show::end(rt)
+    let number = price::number(answer);
+    let place = price::place(answer);
+    println!(rt;
+        "{number} {place} {} {}",
+        price::price_of(answer),
+        price::count_of(answer)
+    )?;
+    Ok(())
 }
 
-// Number i that is lent: what is printed of it shows whether the call touched it.
-fn lent(i: usize) -> i64
-    requires { i < 65536 }
-{
-    -9000000000000000000 + (i as i64)
-}
-
-fn fill_lent(numbers: &mut [i64])
-    requires { length numbers.old ≤ 65536 }
-{
-    for i in 0..numbers.len() {
-        numbers[i] = lent(i);
+fn share(rt: &impl Print, payload: &[u8], x: usize) -> Result<(), Stop> {
+    let (amount, pairs) = payload.split_at_checked(8).ok_or(Stop::BadCase)?;
+    let n = pairs.len() / 8;
+    if ROWS_BY_VALUE < n {
+        return Err(Stop::BadCase);
     }
-}
-
-// 64 bits as a signed number.
-fn amount_of(low: u32, high: u32) -> i64 {
-    let bits = (high as u64) * 4294967296 + (low as u64);
-    if bits < 9223372036854775808 {
-        return bits as i64;
-    }
-    -1 - ((18446744073709551615 - bits) as i64)
-}
-
-fn row(payload: &[u8], i: usize) -> Row
-    requires { (i < rows_by_value) × (8 * i + 16 ≤ length payload.now) }
-{
-    let coordinator = words::word(payload, 2 * i + 2);
-    let demand = words::word(payload, 2 * i + 3);
-    Row {
-        coordinator,
-        demand,
-    }
-}
-
-fn rows_of(payload: &[u8], n: usize) -> [Row; ROWS_BY_VALUE]
-    requires { (n ≤ rows_by_value) × (8 * n + 8 ≤ length payload.now) }
-{
     let none = Row {
         coordinator: 0,
         demand: 0,
     };
     let mut rows = [none; ROWS_BY_VALUE];
-    for i in 0..n {
-        rows[i] = row(payload, i);
+    for (row, pair) in rows.iter_mut().zip(pairs.chunks_exact(8)) {
+        *row = Row {
+            coordinator: words::word(pair, 0),
+            demand: words::word(pair, 1),
+        };
     }
-    rows
+    let [low, high] = words_of::<2>(amount);
+    let amount = (u64::from(high) << 32 | u64::from(low)).cast_signed();
+    with_numbers(
+        rt,
+        &mut [0; 128],
+        x,
+        |charges| sharing::share_array(amount, rows, n, charges),
+    )
 }
 
-fn share_into(
-    rt: &impl Print,
-    amount: i64,
-    rows: [Row; ROWS_BY_VALUE],
-    n: usize,
-    charges: &mut [i64],
-) -> io::Result<()>
-    requires { length charges.old ≤ 128 }
-{
-    fill_lent(charges);
-    show_verdict(rt, sharing::share_array(amount, rows, n, charges))?;
-    show::numbers(rt, charges)
-}
-
-fn share(rt: &impl Print, payload: &[u8], x: usize) -> io::Result<bool> {
-    if payload.len() < 8 {
-        return bad_case(rt);
-    }
-    let n = payload.len() / 8 - 1;
-    if ROWS_BY_VALUE < n {
-        return bad_case(rt);
-    }
-    if 128 < x {
-        return bad_case(rt);
-    }
-    let amount = amount_of(words::word(payload, 0), words::word(payload, 1));
-    let rows = rows_of(payload, n);
-    let mut charges = [0i64; 128];
-    share_into(rt, amount, rows, n, &mut charges[..x])?;
-    Ok(true)
-}
-
-fn settle_into(rt: &impl Print, file: &[u8], statement: &mut [i64]) -> io::Result<()>
-    requires { length statement.old ≤ 8192 }
-{
-    fill_lent(statement);
-    show_verdict(rt, settlement::settle(file, statement))?;
-    show::numbers(rt, statement)
-}
-
-fn settle(rt: &impl Print, file: &[u8], x: usize) -> io::Result<bool> {
-    if 8192 < x {
-        return bad_case(rt);
-    }
-    let mut room = statement_room();
-    settle_into(rt, file, &mut room[..x])?;
-    Ok(true)
-}
-
-// Each byte that is lent: what is printed of the bytes shows whether the call touched them.
-fn statement_bytes() -> [u8; 65536]
-    ensures { 65536 ≡ length result }
-{
-    [165; 65536]
-}
-
-fn settle_bytes(rt: &impl Print, file: &[u8], statement: &mut [u8]) -> io::Result<()> {
-    show::unsigned(rt, rse8080::rse8080_settle(file, statement))?;
-    show::space(rt)?;
-    show::unsigned(rt, digest(statement))?;
-    show::end(rt)
-}
-
-fn c_call(rt: &impl Print, file: &[u8], x: usize) -> io::Result<bool> {
-    if 65536 < x {
-        return bad_case(rt);
-    }
-    let mut room = statement_bytes();
-    settle_bytes(rt, file, &mut room[..x])?;
-    Ok(true)
-}
-
-// The words of the record that stand before the day file.
-fn record_of(payload: &[u8]) -> Record
-    requires { 4 * record_words ≤ length payload.now }
-{
-    let mut numbers = [0u32; RECORD_WORDS];
-    for i in 0..RECORD_WORDS {
-        numbers[i] = words::word(payload, i);
-    }
-    record_words::record_of(numbers)
-}
-
-fn show_record(rt: &impl Print, given: Record) -> io::Result<()> {
-    let numbers = record_words::words_of(given);
-    for number in &numbers {
-        show::space(rt)?;
-        show::unsigned(rt, *number as u64)?;
-    }
-    show::end(rt)
-}
-
-fn enter(rt: &impl Print, payload: &[u8]) -> io::Result<bool> {
-    if payload.len() < 4 * RECORD_WORDS {
-        return bad_case(rt);
-    }
-    let mut record = record_of(payload);
-    let file = &payload[4 * RECORD_WORDS..];
-    show_verdict(rt, entering::enter(&mut record, file))?;
-    show_record(rt, record)?;
-    Ok(true)
-}
-
-fn settle_recorded_into(
-    rt: &impl Print,
-    given: Record,
-    file: &[u8],
-    statement: &mut [i64],
-) -> io::Result<()>
-    requires { length statement.old ≤ 8192 }
-{
-    fill_lent(statement);
-    show_verdict(rt, recorded::settle_recorded(given, file, statement))?;
-    show::numbers(rt, statement)
-}
-
-fn settle_recorded(rt: &impl Print, payload: &[u8], x: usize) -> io::Result<bool> {
-    if payload.len() < 4 * RECORD_WORDS {
-        return bad_case(rt);
-    }
-    if 8192 < x {
-        return bad_case(rt);
-    }
-    let given = record_of(payload);
-    let file = &payload[4 * RECORD_WORDS..];
-    let mut room = statement_room();
-    settle_recorded_into(rt, given, file, &mut room[..x])?;
-    Ok(true)
-}
-
-// Place i that is lent of a table.
-fn lent_place(i: usize) -> u64
-    requires { i < 65536 }
-{
-    9000000000000000000 + (i as u64)
-}
-
-fn fill_table(table: &mut [u64])
-    requires { length table.old ≤ 64 }
-{
-    for i in 0..table.len() {
-        table[i] = lent_place(i);
-    }
-}
-
-fn show_table(rt: &impl Print, table: &[u64]) -> io::Result<()> {
-    for place in table {
-        show::space(rt)?;
-        show::unsigned(rt, *place)?;
-    }
+fn lookup(rt: &impl Print, file: &[u8], area: u32) -> Result<(), Stop> {
+    let body = dayfile::body_of(file, area);
+    println!(rt; "{} {}", body.len(), digest(body))?;
     Ok(())
 }
 
-fn settle_month_into(
-    rt: &impl Print,
-    book: &[u8],
-    statement: &mut [i64],
-    table: &mut [u64],
-) -> io::Result<()>
-    requires { (length statement.old ≤ 8192) × (length table.old ≤ 64) }
-{
-    fill_lent(statement);
-    fill_table(table);
+// Each byte that is lent is 165: what is printed of the bytes shows whether the call touched them.
+fn c_call(rt: &impl Print, file: &[u8], x: usize) -> Result<(), Stop> {
+    let mut room = [165; 65536];
+    let statement = room.get_mut(..x).ok_or(Stop::BadCase)?;
+    let answer = rse8080::rse8080_settle(file, statement);
+    println!(rt; "{answer} {}", digest(statement))?;
+    Ok(())
+}
+
+// The record whose words stand before a day file, and the file.
+fn recorded_file(payload: &[u8]) -> Result<(Record, &[u8]), Stop> {
+    let (words, file) = payload
+        .split_at_checked(4 * RECORD_WORDS)
+        .ok_or(Stop::BadCase)?;
+    Ok((record_words::record_of(words_of(words)), file))
+}
+
+fn enter(rt: &impl Print, payload: &[u8]) -> Result<(), Stop> {
+    let (mut record, file) = recorded_file(payload)?;
+    show_verdict(rt, entering::enter(&mut record, file))?;
+    show::numbers(rt, &record_words::words_of(record))?;
+    println!(rt)?;
+    Ok(())
+}
+
+fn settle_recorded(rt: &impl Print, payload: &[u8], x: usize) -> Result<(), Stop> {
+    let (given, file) = recorded_file(payload)?;
+    with_numbers(
+        rt,
+        &mut [0; NUMBERS_ROOM],
+        x,
+        |statement| recorded::settle_recorded(given, file, statement),
+    )
+}
+
+// The places that are lent of a table are told by what is printed of them, as the numbers are.
+fn settle_month(rt: &impl Print, payload: &[u8], x: usize) -> Result<(), Stop> {
+    let (places, book) = counted(payload)?;
+    let mut table_room = [0; 64];
+    let table = table_room.get_mut(..places).ok_or(Stop::BadCase)?;
+    for (place, lent) in table.iter_mut().zip(9000000000000000000..u64::MAX) {
+        *place = lent;
+    }
+    let mut room = [0; NUMBERS_ROOM];
+    let statement = room.get_mut(..x).ok_or(Stop::BadCase)?;
+    lend(statement);
     show_verdict(rt, month::settle_month(book, statement, table))?;
-    show_table(rt, table)?;
-    show::numbers(rt, statement)
+    show::numbers(rt, table)?;
+    show::numbers(rt, statement)?;
+    println!(rt)?;
+    Ok(())
 }
 
-fn settle_month(rt: &impl Print, payload: &[u8], x: usize) -> io::Result<bool> {
-    if payload.len() < 4 {
-        return bad_case(rt);
-    }
-    let places = words::word(payload, 0) as usize;
-    if 64 < places {
-        return bad_case(rt);
-    }
-    if 8192 < x {
-        return bad_case(rt);
-    }
-    let mut statement = statement_room();
-    let mut table = [0u64; 64];
-    settle_month_into(rt, &payload[4..], &mut statement[..x], &mut table[..places])?;
-    Ok(true)
-}
-
-fn add_day_into(rt: &impl Print, book: &mut [u8], file: &[u8]) -> io::Result<()> {
-    show_verdict(rt, keeping::add_day(book, file))?;
-    show::space(rt)?;
-    show::unsigned(rt, digest(book))?;
-    show::end(rt)
+fn show_book(rt: &impl Print, answer: Result<(), Refusal>, book: &[u8]) -> Result<(), Stop> {
+    show_verdict(rt, answer)?;
+    println!(rt; " {}", digest(book))?;
+    Ok(())
 }
 
 // The book is copied out of the payload, so that the file stays beside it.
-fn add_day(rt: &impl Print, payload: &[u8]) -> io::Result<bool> {
-    if payload.len() < 4 {
-        return bad_case(rt);
-    }
-    let bytes = words::word(payload, 0) as usize;
-    if 262144 < bytes {
-        return bad_case(rt);
-    }
-    if payload.len() - 4 < bytes {
-        return bad_case(rt);
-    }
-    let mut room = payload_room();
-    moving::copy_in(&mut room, 0, &payload[4..4 + bytes]);
-    add_day_into(rt, &mut room[..bytes], &payload[4 + bytes..])?;
-    Ok(true)
+fn add_day(rt: &impl Print, payload: &[u8]) -> Result<(), Stop> {
+    let (bytes, rest) = counted(payload)?;
+    let (given, file) = rest.split_at_checked(bytes).ok_or(Stop::BadCase)?;
+    let mut room = [0; PAYLOAD_ROOM];
+    let book = room.get_mut(..bytes).ok_or(Stop::BadCase)?;
+    book.copy_from_slice(given);
+    let answer = keeping::add_day(book, file);
+    show_book(rt, answer, book)
 }
 
-fn withdraw_day(rt: &impl Print, book: &mut [u8], date: u32) -> io::Result<()> {
-    show_verdict(rt, keeping::withdraw_day(book, date))?;
-    show::space(rt)?;
-    show::unsigned(rt, digest(book))?;
-    show::end(rt)
+fn withdraw_day(rt: &impl Print, book: &mut [u8], date: u32) -> Result<(), Stop> {
+    let answer = keeping::withdraw_day(book, date);
+    show_book(rt, answer, book)
 }
 
-// The words of the basis that stand before the day file.
-fn basis_of(payload: &[u8], count: usize) -> [u32; 1024]
-    requires { (count ≤ 1024) × (4 * count + 4 ≤ length payload.now) }
-    ensures { 1024 ≡ length result }
-{
-    let mut basis = [0u32; 1024];
-    for i in 0..count {
-        basis[i] = words::word(payload, i + 1);
+fn pay_out(rt: &impl Print, payload: &[u8], x: usize) -> Result<(), Stop> {
+    let (count, rest) = counted(payload)?;
+    if BASIS_ROOM < count {
+        return Err(Stop::BadCase);
     }
-    basis
-}
-
-fn pay_out_into(rt: &impl Print, file: &[u8], basis: &[u32], payments: &mut [i64]) -> io::Result<()>
-    requires { length payments.old ≤ 8192 }
-{
-    fill_lent(payments);
-    show_verdict(rt, payout::pay_out(file, basis, payments))?;
-    show::numbers(rt, payments)
-}
-
-fn pay_out(rt: &impl Print, payload: &[u8], x: usize) -> io::Result<bool> {
-    if payload.len() < 4 {
-        return bad_case(rt);
-    }
-    let count = words::word(payload, 0) as usize;
-    if 1024 < count {
-        return bad_case(rt);
-    }
-    if payload.len() - 4 < 4 * count {
-        return bad_case(rt);
-    }
-    if 8192 < x {
-        return bad_case(rt);
-    }
-    let basis = basis_of(payload, count);
-    let mut room = statement_room();
-    pay_out_into(
+    let (words, file) = rest.split_at_checked(4 * count).ok_or(Stop::BadCase)?;
+    let basis = words_of::<BASIS_ROOM>(words);
+    with_numbers(
         rt,
-        &payload[4 + 4 * count..],
-        &basis[..count],
-        &mut room[..x],
-    )?;
-    Ok(true)
+        &mut [0; NUMBERS_ROOM],
+        x,
+        |payments| payout::pay_out(file, &basis[..count], payments),
+    )
 }
 
-fn call(rt: &impl Print, number: u32, x: u32, payload: &mut [u8]) -> io::Result<bool> {
+fn call(rt: &impl Print, number: u32, x: u32, payload: &mut [u8]) -> Result<(), Stop> {
     match number {
-        1 => {
-            check(rt, payload)?;
-            Ok(true)
-        }
+        1 => check(rt, payload),
         2 => settle(rt, payload, x as usize),
-        3 => {
-            price(rt, payload)?;
-            Ok(true)
-        }
+        3 => price(rt, payload),
         4 => share(rt, payload, x as usize),
-        5 => {
-            lookup(rt, payload, x)?;
-            Ok(true)
-        }
+        5 => lookup(rt, payload, x),
         6 => c_call(rt, payload, x as usize),
         7 => enter(rt, payload),
         8 => settle_recorded(rt, payload, x as usize),
         9 => settle_month(rt, payload, x as usize),
         10 => add_day(rt, payload),
-        11 => {
-            withdraw_day(rt, payload, x)?;
-            Ok(true)
-        }
+        11 => withdraw_day(rt, payload, x),
         12 => pay_out(rt, payload, x as usize),
-        _ => bad_case(rt),
+        _ => Err(Stop::BadCase),
     }
 }
 
-fn filled(rt: &(impl Input + Print), number: u32, x: u32, payload: &mut [u8]) -> io::Result<bool> {
-    let got = reading::read_full(rt, payload)?;
-    if got < payload.len() {
-        return Ok(false);
+// Fills some room from the stream, which ends where it does not fill it.
+fn fill(rt: &impl Input, room: &mut [u8]) -> Result<(), Stop> {
+    if reading::read_full(rt, room)? < room.len() {
+        return Err(Stop::End);
     }
-    call(rt, number, x, payload)
+    Ok(())
 }
 
-// One case; false where the run is over.
-fn case(rt: &(impl Input + Print)) -> io::Result<bool> {
+fn case(rt: &(impl Input + Print)) -> Result<(), Stop> {
     let mut head = [0u8; 16];
-    let got = reading::read_full(rt, &mut head)?;
-    if got < 16 {
-        return Ok(false);
-    }
-    let payload = words::word(&head, 3) as usize;
-    if 262144 < payload {
-        return bad_case(rt);
-    }
-    let mut room = payload_room();
-    filled(
-        rt,
-        words::word(&head, 0),
-        words::word(&head, 1),
-        &mut room[..payload],
-    )
+    fill(rt, &mut head)?;
+    let [number, x, _, bytes] = words_of::<4>(&head);
+    let mut room = [0; PAYLOAD_ROOM];
+    let payload = room.get_mut(..bytes as usize).ok_or(Stop::BadCase)?;
+    fill(rt, payload)?;
+    call(rt, number, x, payload)
 }
 
 fn run(rt: &(impl Input + Print)) -> io::Result<()> {
     for _ in 0..1000000 {
-        if !case(rt)? {
-            break;
+        match case(rt) {
+            Ok(()) => {}
+            Err(Stop::End) => return Ok(()),
+            Err(Stop::BadCase) => return println!(rt; "bad case"),
+            Err(Stop::Failed(error)) => return Err(error),
         }
     }
     Ok(())

@@ -5,7 +5,6 @@
 
 ghost use Rattle.std.specs.Prelude.{◌≡◌, ◌+◌, ◌-◌, ◌*◌, ◌≤◌, ◌<◌, length};
 ghost use Rattle.std.specs.Iterator.{at_most};
-ghost use Rattle.words.specs.Word.{word_at};
 ghost use Rattle.limits.specs.Ranges.{day_hours, most_coordinators, proved_points};
 ghost use Rattle.hour.specs.Layout.{hour_words};
 ghost use Rattle.body.specs.Layout.{points_of, coordinators_of, hour_at};

@@ -2,9 +2,6 @@
 // A case is four words (the call, x, y, the number of payload bytes) and its payload; the stream ends where no whole case follows.
 #![tactic(auto)]
 
-ghost use Rattle.std.specs.Prelude.{◌≡◌, ◌+◌, ◌*◌, ◌≤◌, length};
-ghost use Rattle.record_words.specs.Words.{record_words};
-
 use record_words::RECORD_WORDS;
 use recording::Record;
 use sharing::{ROWS_BY_VALUE, Row};

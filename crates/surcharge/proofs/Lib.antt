@@ -1,4 +1,5 @@
 pub mod Sizes
+pub mod Rounded
 pub mod Unneeded
 pub mod PeakHours
 pub mod InCents

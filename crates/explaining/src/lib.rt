@@ -12,7 +12,8 @@ use amounts::DayHour;
 use price::{PriceRefusal, Priced};
 use units::{Cents, MarketPrice, Quantity};
 
-// The shortage of an hour: U, Q and the tier, whether it is a peak hour and needs its price, and m in quarters.
+// The shortage of an hour: U, Q and the tier, whether it is a peak hour and needs its price, and m in quarters. The two truth values are facts
+// that are shown, each by itself, and no flags of another field.
 #[derive(Clone, Copy)]
 pub struct Shortage {
     pub upward: Quantity,

@@ -64,7 +64,8 @@ pub fn share(amount: i64, rows: &[Row], charges: &mut [i64]) -> Result<(), Refus
     share_table(amount, table_of(rows), charges)
 }
 
-// For a caller that holds its rows by value: the first n are lent to the sharing call, or all of them where n is larger.
+// For a caller that holds its rows by value: the first n are lent to the sharing call, or all of them where n is larger. An array and a count,
+// and no slice: the promise is for this caller, and there is no heap.
 pub fn share_array(
     amount: i64,
     rows: [Row; ROWS_BY_VALUE],

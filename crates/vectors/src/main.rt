@@ -234,6 +234,7 @@ fn pay_out(rt: &impl Print, payload: &[u8], x: usize) -> Result<(), Stop> {
     )
 }
 
+// The one place that turns the number of a case, a word of the stream, into a call.
 fn call(rt: &impl Print, number: u32, x: u32, payload: &mut [u8]) -> Result<(), Stop> {
     match number {
         1 => check(rt, payload),

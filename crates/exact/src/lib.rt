@@ -29,14 +29,14 @@ pub fn round_div(a: i64, b: u32) -> i64
 pub fn product(a: u32, b: i32) -> i64
     ensures { result ≡ pos a *ℤ b }
 {
-    (a as i64) * (b as i64)
+    i64::from(a) * i64::from(b)
 }
 
 pub fn times(z: i64, n: u32) -> i64
     requires { SFits w64 (z *ℤ pos n) }
     ensures { result ≡ z *ℤ pos n }
 {
-    z * (n as i64)
+    z * i64::from(n)
 }
 
 pub fn at_least_zero(z: i64) -> i64
@@ -51,12 +51,9 @@ pub fn at_most_zero(z: i64) -> i64
     z.min(0)
 }
 
-// How far z is from 0. For z below 0, -1 - z does not wrap.
+// How far z is from 0.
 pub fn absolute(z: i64) -> u64
     ensures { result ≡ nat_abs z }
 {
-    if z < 0 {
-        return (-1 - z) as u64 + 1;
-    }
-    z as u64
+    z.unsigned_abs()
 }

@@ -1,4 +1,4 @@
-// The check of one hour of a body: its eight numbers, its intervals and its demands, the first word that breaks its rule, and whether the hour is plain.
+// The check of one hour of a body: its eight numbers, its intervals and its demands, the first word that breaks its rule, or whether the hour is plain.
 // Most hours are accepted: an hour is judged without a branch first, and word by word only where it is not accepted.
 #![tactic(auto)]
 

@@ -23,7 +23,7 @@ fn collected(payments: &[i64], n: usize, j: usize) -> i64
     sum
 }
 
-// Column j of the first n rows, and 0 behind them.
+// Column j of the first n rows, and 0 behind them: an array as long as it may get, since there is no heap.
 fn basis_column(bases: &[u32], n: usize, j: usize) -> [u32; limits::MOST_AREAS]
     requires { (n ≤ most_areas) × ((j < day_payments) × (day_payments * n ≤ length bases.now)) }
     ensures { take n result ≡ column 0 bases.now n j }

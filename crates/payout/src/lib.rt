@@ -74,7 +74,8 @@ fn collect_areas(file: &[u8], n: usize, collected: &mut [i64])
     }
 }
 
-// The basis of each area that counts, area after area at the front of `counted`.
+// The basis of each area that counts, area after area at the front of `counted`. It and `collect_areas` go over the areas alike, and lend and call
+// otherwise: one function would take a closure with a contract of its own.
 #[tactic(auto, unfolding(payout_rules::specs::PayOut::areas_to))]
 fn count_bases(file: &[u8], basis: &[u32], n: usize, counted: &mut [u32])
     requires sound_file { (SoundFile file.now) × (n ≡ areas_of file.now) }

@@ -129,11 +129,9 @@ fn load_weighted_within(most: usize, pairs: &[u8]) -> Result<Priced, PriceRefusa
         return Err(PriceRefusal::BadLength);
     }
     let n = pairs.len() / 8;
-    if let Err(refusal) = hour::intervals(0, pairs, 0, n) {
-        return Err(PriceRefusal::OutOfRange {
-            pair: refusal.place() / 2,
-        });
-    }
+    hour::intervals(0, pairs, 0, n).map_err(|refusal| PriceRefusal::OutOfRange {
+        pair: refusal.place() / 2,
+    })?;
     average_price(pairs, n)
 }
 

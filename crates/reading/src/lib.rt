@@ -1,4 +1,4 @@
-// What the programs read a day file with: the room for the longest file and for its statement, and the file itself.
+// What the programs read with: the room for the longest day file and for its statement, and the input itself.
 #![tactic(auto)]
 
 ghost use Rattle.std.specs.Prelude.{◌≡◌, ◌+◌, ◌≤◌, length, IfOk};

@@ -12,7 +12,8 @@ pub struct Place {
     pub marks: u32,
 }
 
-// Places behind the areas held are 0, 0.
+// Places behind the areas held are 0, 0. An array and a count, since any eighteen words are a record, good or not (`record_words`), also with a
+// count that is too large.
 #[derive(Clone, Copy, PartialEq, Eq, Debug)]
 pub struct Record {
     // YYYYMMDD; 0 where no day was entered

@@ -1,4 +1,4 @@
-// What several programs print. The answer is whether all of it was written, or what stopped it.
+// Numbers in a row, as the programs of cases and of figures print them. The answer is whether all of it was written, or what stopped it.
 #![tactic(auto)]
 
 use std::fmt::Display;

@@ -26,7 +26,7 @@ pub struct MarketPrice(pub i32);
 #[derive(Clone, Copy)]
 pub struct RaisedPrice(pub u32);
 
-// A quantity at such a price: cents, over 100,000.
+// A quantity at such a price: cents, over 100,000. No CentsOver: it is never below 0, holds twice as much, and only `lowered` leads on from it.
 #[derive(Clone, Copy)]
 pub struct RaisedCentsOver100000(pub u64);
 

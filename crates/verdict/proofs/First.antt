@@ -1,4 +1,4 @@
--- The laws of "the first that breaks its rule". They go by the number of a verdict alone, so a new case touches none of them.
+-- The laws of "the first that breaks its rule". They go by accepted and refused alone, so a new refusal touches none of them.
 use Prim.Native.Nat.{ℕ, zero, suc, ◌+◌, ◌-◌, ◌<◌, ◌≤◌}
 use mathlib.Core.Path.{◌≡◌, refl, sym, ap, ap₂, ◌∙◌, subst}
 use mathlib.Core.Bool.{Bool, true, false, cond, ◌&&◌, and-true, and_assoc}

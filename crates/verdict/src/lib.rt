@@ -1,4 +1,4 @@
-// The answer of every call: accepted, or the rule of docs/RULES.md that is broken, with its place.
+// What a call refuses, by the rules of docs/RULES.md, with its place. The answer of a call is `Result<(), Refusal>`.
 #![tactic(auto)]
 
 ghost use Rattle.std.specs.Prelude.{◌≡◌, ◌<◌};
@@ -45,24 +45,24 @@ impl Refusal {
             Refusal::BadAreaCount => 3,
             Refusal::BadDate => 4,
             Refusal::BadPeakHours => 5,
-            Refusal::BadContents { word: _ } => 6,
-            Refusal::BadBodyHead { word: _ } => 7,
-            Refusal::BadCoordinator { place: _ } => 8,
-            Refusal::OutOfRange { place: _ } => 9,
-            Refusal::RunningDemandTooLarge { place: _ } => 10,
-            Refusal::PriceWithoutQuantity { place: _ } => 11,
-            Refusal::AmountWithoutDemand { place: _ } => 12,
-            Refusal::RoomTooShort { needed: _ } => 13,
+            Refusal::BadContents { .. } => 6,
+            Refusal::BadBodyHead { .. } => 7,
+            Refusal::BadCoordinator { .. } => 8,
+            Refusal::OutOfRange { .. } => 9,
+            Refusal::RunningDemandTooLarge { .. } => 10,
+            Refusal::PriceWithoutQuantity { .. } => 11,
+            Refusal::AmountWithoutDemand { .. } => 12,
+            Refusal::RoomTooShort { .. } => 13,
             Refusal::BadRecord => 14,
             Refusal::AmountBeyondRange => 15,
-            Refusal::TooFewIntervals { place: _ } => 16,
+            Refusal::TooFewIntervals { .. } => 16,
             Refusal::DayNotAfter => 18,
             Refusal::TooManyAreas => 19,
-            Refusal::BadBook { word: _ } => 20,
+            Refusal::BadBook { .. } => 20,
             Refusal::DaysDoNotFit => 21,
             Refusal::DateThereOrAbsent => 22,
             Refusal::BadBasis => 23,
-            Refusal::PaymentRoomTooShort { needed: _ } => 24,
+            Refusal::PaymentRoomTooShort { .. } => 24,
         }
     }
 
@@ -71,29 +71,28 @@ impl Refusal {
         ensures { result ≡ refusal_place self }
     {
         match self {
-            Refusal::BadContents { word } => word,
-            Refusal::BadBodyHead { word } => word,
-            Refusal::BadCoordinator { place } => place,
-            Refusal::OutOfRange { place } => place,
-            Refusal::RunningDemandTooLarge { place } => place,
-            Refusal::PriceWithoutQuantity { place } => place,
-            Refusal::AmountWithoutDemand { place } => place,
-            Refusal::RoomTooShort { needed } => needed,
-            Refusal::TooFewIntervals { place } => place,
-            Refusal::BadBook { word } => word,
-            Refusal::PaymentRoomTooShort { needed } => needed,
+            Refusal::BadContents { word }
+            | Refusal::BadBodyHead { word }
+            | Refusal::BadBook { word } => word,
+            Refusal::BadCoordinator { place }
+            | Refusal::OutOfRange { place }
+            | Refusal::RunningDemandTooLarge { place }
+            | Refusal::PriceWithoutQuantity { place }
+            | Refusal::AmountWithoutDemand { place }
+            | Refusal::TooFewIntervals { place } => place,
+            Refusal::RoomTooShort { needed } | Refusal::PaymentRoomTooShort { needed } => needed,
             Refusal::BadAreaCount => 2,
             Refusal::BadDate => 1,
             Refusal::BadPeakHours => 3,
-            Refusal::BadLength => 0,
-            Refusal::BadEdition => 0,
-            Refusal::BadRecord => 0,
-            Refusal::AmountBeyondRange => 0,
-            Refusal::DayNotAfter => 0,
-            Refusal::TooManyAreas => 0,
-            Refusal::DaysDoNotFit => 0,
-            Refusal::DateThereOrAbsent => 0,
-            Refusal::BadBasis => 0,
+            Refusal::BadLength
+            | Refusal::BadEdition
+            | Refusal::BadRecord
+            | Refusal::AmountBeyondRange
+            | Refusal::DayNotAfter
+            | Refusal::TooManyAreas
+            | Refusal::DaysDoNotFit
+            | Refusal::DateThereOrAbsent
+            | Refusal::BadBasis => 0,
         }
     }
 }

@@ -3,9 +3,8 @@ use Rattle.std.proofs.Common.{◌≡◌, ℕ, zero, suc, ◌+◌, ◌/◌, ◌<�
 use Rattle.std.proofs.lemmas.Grind.{common_steps, take-set_at}
 use Rattle.std.proofs.lemmas.List.{map_more, take_at, drop_at, length-map, length-take, take-append-drop, drop-set-lt, drop-drop}
 use Rattle.std.proofs.lemmas.Nat.{from_le_bytes-to_le_bytes_8}
-use Rattle.std.specs.Int.{from_le_bytes}
 use Rattle.std.specs.Simd.{first_chunks}
-use Rattle.encoding.specs.Encoding.{bits_of, bytes_of, encoded, AllFit, NumbersIn}
+use Rattle.encoding.specs.Encoding.{bits_of, bytes_of, encoded, number_in, AllFit, NumbersIn}
 use Rattle.encoding.proofs.Encoding.{eight_bytes, encoded_length, le_bytes}
 
 -- ---- lists of numbers that fit
@@ -31,18 +30,14 @@ fit_append (z ∷ numbers) more fit also =
 
 -- ---- numbers that are taken
 
--- the number that eight bytes hold
-abbrev pub number_of : List ℕ → ℤ
-number_of eight = to_z w64 (from_le_bytes w64 eight)
-
 below : (z : ℤ) → SFits w64 z → of_z w64 z < 18446744073709551616
 below (pos n) f = omega (arith, f.sfits)
 below (negsuc n) f = omega arith
 
-number_back : (z : ℤ) → SFits w64 z → number_of (bytes_of (bits_of z)) ≡ z
+number_back : (z : ℤ) → SFits w64 z → number_in (bytes_of (bits_of z)) ≡ z
 number_back z f = rw (← le_bytes z) (ap (to_z w64) (from_le_bytes-to_le_bytes_8 (of_z w64 z) (below z f)) ∙ to_z-of_z f)
 
-all_back : (numbers : List ℤ) → AllFit numbers → map number_of (first_chunks 8 (length numbers) (encoded numbers)) ≡ numbers
+all_back : (numbers : List ℤ) → AllFit numbers → map number_in (first_chunks 8 (length numbers) (encoded numbers)) ≡ numbers
 unfolding encoded
 all_back [] fit = refl
 all_back (z ∷ numbers) fit =
@@ -52,7 +47,7 @@ all_back (z ∷ numbers) fit =
     (ap₂ ◌∷◌ (number_back z (fit.each 0 (omega arith))) (all_back numbers (fit_rest z numbers fit)))
 
 pub taken : (bytes : List ℕ) (before : List ℤ)
-    → NumbersIn bytes before (map number_of (first_chunks 8 (length bytes / 8) bytes) ++ drop (length bytes / 8) before)
+    → NumbersIn bytes before (map number_in (first_chunks 8 (length bytes / 8) bytes) ++ drop (length bytes / 8) before)
 taken bytes before = record { are = λ numbers fit e. grind (arith, common_steps, e, encoded_length numbers, all_back numbers fit) }
 
 -- a turn of the loop that takes number after number

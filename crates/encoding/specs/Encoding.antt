@@ -1,7 +1,7 @@
 -- Numbers as bytes (docs/RULES.md, section 11): "8 little-endian bytes a number".
 use Rattle.std.specs.Prelude.{ℕ, ◌+◌, ◌-◌, ◌/◌, ◌%◌, ◌^◌, ◌<◌, List, [], ◌∷◌, ◌++◌, ◌≡◌, ℤ, pos, negsuc, length, get_or, drop}
-use Rattle.std.specs.Int.{w64}
-use Rattle.std.proofs.Common.{SFits}
+use Rattle.std.specs.Int.{w64, from_le_bytes}
+use Rattle.std.proofs.Common.{SFits, to_z}
 
 -- the 64 bits of a number, two's complement
 abbrev pub bits_of : ℤ → ℕ
@@ -24,6 +24,10 @@ bytes_of bits =
 unfoldable pub encoded : List ℤ → List ℕ
 encoded [] = []
 encoded (z ∷ numbers) = bytes_of (bits_of z) ++ encoded numbers
+
+-- the number that eight bytes hold
+abbrev pub number_in : List ℕ → ℤ
+number_in eight = to_z w64 (from_le_bytes w64 eight)
 
 -- every number of a list fits 64 bits
 pub record AllFit (numbers : List ℤ) : Type 0 where

@@ -2,7 +2,7 @@
 #![tactic(auto)]
 
 ghost use Rattle.std.specs.Prelude.{◌≡◌, ◌++◌, ◌*◌, ◌/◌, ◌≤◌, length, drop};
-ghost use Rattle.encoding.specs.Encoding.{bits_of, bytes_of, encoded, NumbersIn};
+ghost use Rattle.encoding.specs.Encoding.{bits_of, bytes_of, encoded, number_in, NumbersIn};
 
 #[tactic(auto, using(crate::proofs::Encoding::le_bytes))]
 pub fn put_number(z: i64, bytes: &mut [u8])
@@ -21,6 +21,13 @@ pub fn put_numbers(numbers: &[i64], bytes: &mut [u8])
     }
 }
 
+// The number that eight bytes hold.
+fn number(eight: [u8; 8]) -> i64
+    ensures { result ≡ number_in eight }
+{
+    i64::from_le_bytes(eight)
+}
+
 // The numbers of some bytes, eight bytes each.
 pub fn take_numbers(bytes: &[u8], numbers: &mut [i64])
     requires { length bytes.now / 8 ≤ length numbers.old }
@@ -28,6 +35,6 @@ pub fn take_numbers(bytes: &[u8], numbers: &mut [i64])
 {
     let (eights, _) = bytes.as_chunks::<8>();
     for (i, eight) in eights.iter().enumerate() {
-        numbers[i] = i64::from_le_bytes(*eight);
+        numbers[i] = number(*eight);
     }
 }

@@ -19,7 +19,7 @@ use Rattle.recording.specs.Record.{entries, record_of, kept, marked_all, answere
 use Rattle.recording.proofs.InPlace.{entries_of_lem, refused_full, marked_room}
 use Rattle.dayfile.specs.Check.{check_of}
 use Rattle.record_check.specs.Left.{record_rule, admit_rule, days_between}
-use Rattle.entering.specs.Enter.{held_then, room_rule, enter_of, record_after, entered}
+use Rattle.entering.specs.Enter.{answer_with, held_then, room_rule, enter_of, record_after, entered}
 
 module _ (r : Record) (file : List ℕ) where
   -- a refusal leaves the record as it was
@@ -55,6 +55,11 @@ module _ (r : Record) (file : List ℕ) where
 pub opened : (r : Record) (file : List ℕ) → enter_of r file ≡ (admit_rule r file or_else room_rule r file)
 unfolding enter_of admit_rule
 opened r file = sym (or_assoc (check_of file) (record_rule r (day_of file)) (room_rule r file))
+
+-- the answer and the record afterwards are the entry
+pub whole_entry : (r : Record) (file : List ℕ) {verdict : Verdict} {after : Record} → verdict ≡ enter_of r file → after ≡ record_after r file verdict
+    → answer_with verdict after ≡ entered r file
+whole_entry r file e f = rw (f, e)
 
 -- ---- what an accepted entry says
 

@@ -7,7 +7,7 @@ ghost use Rattle.contents.specs.File.{areas_of};
 ghost use Rattle.marking.specs.Marked.{marked_from};
 ghost use Rattle.recording.specs.Record.{entries, marked_all, Sound, answered};
 ghost use Rattle.settlement.specs.SoundFile.{SoundFile};
-ghost use Rattle.entering.specs.Enter.{enter_of, record_after};
+ghost use Rattle.entering.specs.Enter.{answer_with, enter_of, record_after, entered};
 
 use recording::Record;
 use verdict::Refusal;
@@ -31,6 +31,7 @@ fn mark_areas(given: Record, file: &[u8], n: usize) -> Option<Record>
 pub fn enter(given: &mut Record, file: &[u8]) -> Result<(), Refusal>
     ensures value { result ≡ enter_of given.old file.now }
     ensures record_after { given.new ≡ record_after given.old file.now result }
+    ensures both { answer_with result given.new ≡ entered given.old file.now }
 {
     record_check::admit(*given, file)?;
     let date = words::word(file, 1);

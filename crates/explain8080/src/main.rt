@@ -3,7 +3,7 @@
 // of the functions that settled them.
 #![tactic(auto)]
 
-ghost use Rattle.std.specs.Prelude.{◌≡◌, ◌+◌, ◌-◌, ◌*◌, ◌≤◌, ◌<◌, length};
+ghost use Rattle.std.specs.Prelude.{◌≡◌, ◌+◌, ◌-◌, ◌*◌, ◌≤◌, ◌<◌, length, IfSome};
 ghost use Rattle.std.specs.Iterator.{at_most};
 ghost use Rattle.limits.specs.Ranges.{day_hours, most_coordinators, proved_points};
 ghost use Rattle.hour.specs.Layout.{hour_words};
@@ -85,7 +85,9 @@ impl<'a> Area<'a> {
     }
 
     // Which coordinator has the number.
-    fn position(self, coordinator: u32) -> Option<usize> {
+    fn position(self, coordinator: u32) -> Option<usize>
+        ensures { IfSome result (λ i. i < coordinators_of self.entry.body.now) }
+    {
         for i in 0..self.coordinators() {
             if self.coordinator(i) == coordinator {
                 return Some(i);

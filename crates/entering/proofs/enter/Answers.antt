@@ -7,7 +7,7 @@ use Rattle.dayfile.proofs.Facts.{within_limits, file_head}
 use Rattle.recording.proofs.AllMarked.{aged_sound}
 use Rattle.record_check.proofs.Left.{admitted, record_before}
 use Rattle.settlement.proofs.Accepted.{sound_file}
-use Rattle.entering.proofs.Entry.{aged_on, too_many, taken, opened, refused_so}
+use Rattle.entering.proofs.Entry.{aged_on, too_many, taken, opened, refused_so, whole_entry}
 use Rattle.entering.proofs.enter.Goals as goal
 
 pub returns-in_err-admit-clause-value : goal.returns-in_err-admit-clause-value
@@ -16,6 +16,10 @@ returns-in_err-admit-clause-value c =
 
 pub returns-in_err-admit-clause-record_after : goal.returns-in_err-admit-clause-record_after
 returns-in_err-admit-clause-record_after c = refused_so _ _ _ (refuses _ c.from_residual.ensures.0)
+
+pub returns-in_err-admit-clause-both : goal.returns-in_err-admit-clause-both
+returns-in_err-admit-clause-both c =
+    whole_entry _ _ (returns-in_err-admit-clause-value c) (returns-in_err-admit-clause-record_after c)
 
 pub word-date-requires : goal.word-date-requires
 word-date-requires c =
@@ -55,13 +59,18 @@ returns-in_default-clause-value c =
 pub returns-in_default-clause-record_after : goal.returns-in_default-clause-record_after
 returns-in_default-clause-record_after c = refused_so _ _ _ (no_refusal_is_zero TooManyAreas)
 
+pub returns-in_default-clause-both : goal.returns-in_default-clause-both
+returns-in_default-clause-both c = whole_entry _ _ (returns-in_default-clause-value c) (returns-in_default-clause-record_after c)
+
 pub returns : goal.returns
 returns c =
     let r = c.args.given.now in
     let f = c.args.file.now in
     let aged = aged_on r f _ _ _ c.age_all-aged.ensures c.gap.ensures c.word-date.ensures in
     let entry = taken r f _ _ _ aged c.mark_areas.ensures c.word-n.ensures c.in-Some.after c.in-Some.is in
+    let value = sym (seq_next _ _ _ _ (opened r f) (sym c.in_ok-admit.ensures.answer_value) ∙ entry.0) in
     record {
-      value = sym (seq_next _ _ _ _ (opened r f) (sym c.in_ok-admit.ensures.answer_value) ∙ entry.0);
+      value = value;
       record_after = entry.1;
+      both = whole_entry r f value entry.1;
     }

@@ -1,5 +1,6 @@
-use Rattle.std.proofs.Common.{◌≡◌, ℕ, ◌-◌, List, length, drop, take, sym, ap, ◌∙◌, length-drop}
+use Rattle.std.proofs.Common.{◌≡◌, ℕ, ◌-◌, List, length, drop, take, sym, ap, ◌∙◌, length-drop, arith}
 use lib.Seq.{take-length}
+use Rattle.limits.specs.Editions.{most_held}
 use Rattle.recording.specs.declared.Place.{Place}
 use Rattle.recording.specs.Record.{place}
 use Rattle.recording.proofs.Lists.{length_mapped}
@@ -16,8 +17,9 @@ to_the_last most held l full =
 pub returns-then-not-place_empty : goal.returns-then-not-place_empty
 returns-then-not-place_empty c =
     let r = c.args.given in
+    let full : length r.places ≡ most_held = search length_mapped in
     unused_stop _ _ (place 0 0) _ c.loop-p-test.true c.loop-p.invariant (sym c.place_empty.ensures ∙ c.if-not-place_empty.true)
-    ∙ ap unused_empty (to_the_last _ r.held r.places (search length_mapped))
+    ∙ ap unused_empty (to_the_last _ r.held r.places (omega (arith, full)))
 
 pub loop-p-preserved : goal.loop-p-preserved
 loop-p-preserved c =
@@ -26,4 +28,5 @@ loop-p-preserved c =
 pub returns : goal.returns
 returns c =
     let r = c.args.given in
-    unused_done _ _ _ c.loop-p-test.false c.loop-p.invariant ∙ ap unused_empty (to_the_last _ r.held r.places (search length_mapped))
+    let full : length r.places ≡ most_held = search length_mapped in
+    unused_done _ _ _ c.loop-p-test.false c.loop-p.invariant ∙ ap unused_empty (to_the_last _ r.held r.places (omega (arith, full)))

@@ -53,7 +53,7 @@ returns-clause-numbers_value c =
     let long = ap length (done.1 ∙ ap (λ v. after v file xs) done.0) ∙ day_length file xs in
     let needed =
     c.numbers_needed-needed.ensures ∙ ap (needed_to file) c.word.ensures ∙ sym (taken_needed file accepted) in
-    omega (arith, long, needed)
+    grind (arith, long, needed)
 
 pub returns-clause-statement_after : goal.returns-clause-statement_after
 returns-clause-statement_after c =
